@@ -269,10 +269,13 @@ module _ (s : Setting) (ca : Validated) (folder : List ℕ) (signer : Certificat
 
             -- it is the list
             pub is-list : AllHold (list_checks s.verdict s.now ca signer crl.list)
-                → (at : List ℕ) → at ≡ uri → IsLooked old new (Ok (record { uri = at; crl = crl }))
-            is-list h at same = spent {Y = IsListAt s ca folder signer manifest at crl.list}
-                (subst (λ (u : List ℕ). IsListAt s ca folder signer manifest u crl.list)
-                (sym same) (record {
+                → (list : Found) → list.uri ≡ uri → list.crl ≡ crl → IsLooked old new (Ok list)
+            is-list h list same kept =
+                spent {Y = IsListAt s ca folder signer manifest list.uri list.crl.list}
+                (subst (λ (u : List ℕ). IsListAt s ca folder signer manifest u list.crl.list)
+                (sym same)
+                (subst (λ (k : KeptCrl). IsListAt s ca folder signer manifest uri k.list) (sym kept)
+                (record {
                   hash = hash;
                   file = file;
                   octets = octets;
@@ -285,4 +288,4 @@ module _ (s : Setting) (ca : Validated) (folder : List ℕ) (signer : Certificat
                     current = (h.1.1.0, h.1.1.1.0);
                   };
                   unrevoked = h.1.1.1.1.0;
-                }))
+                })))

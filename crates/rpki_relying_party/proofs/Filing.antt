@@ -9,7 +9,7 @@ use Rattle.rpki_certs.specs.Validate.{Validated}
 use Rattle.rpki_files.specs.Manifest.Uris.{UriAndHash}
 use Rattle.rpki_relying_party.specs.Costs.{ReadCosts, ReadStarts, ChildCosts, FileCosts}
 use Rattle.rpki_relying_party.specs.Costs.{FileStarts, FilesCost, FilesLost, FilesStart}
-use Rattle.rpki_relying_party.specs.Costs.{found_cost, lookup_cost}
+use Rattle.rpki_relying_party.specs.Costs.{found_cost}
 use Rattle.rpki_relying_party.specs.Kind.{kind_of}
 use Rattle.rpki_relying_party.specs.Lacks.{WhyNoFiles, IsLostFile}
 use Rattle.rpki_relying_party.specs.Outcome.{Spends, IsOutcome, AppendsBoth}
@@ -67,38 +67,21 @@ module _ (s : Setting) (ca : Validated) (list_uri : List ℕ) (list : Revocation
           (λ cause n l. (other, l.0, l.1)) old new Yes Yes2 stop h
 
       module _ (octets : List ℕ) (old mid : ℕ)
-          (read : Spends (λ n. Has s file octets × (n ≡ found_cost (Ok octets))) old mid)
-          (looking : ℕ) (is : looking ≡ lookup_cost list) where
-        -- one for which there is no room to look its certificate up
-        pub no-lookup : {T : Type 0} (Yes : T → ℕ → Type 0) (new : ℕ) (stop : Stop)
-            → (stop ≡ Room) × (mid < looking) × (new ≡ mid)
-            → IsOutcome (FileStarts s ca list_uri list file) Yes (WhyLost s list_uri file) old new
-            (Err stop)
-        no-lookup Yes new stop h =
-            subst (λ (x : Stop).
-            IsOutcome (FileStarts s ca list_uri list file) Yes (WhyLost s list_uri file) old new
-            (Err x))
-            (sym (h.0)) (
-              found_cost (Ok octets) + (lookup_cost list + 0),
-              (other, inr (octets, 0, read.1.0, inl refl, refl)),
-              omega (arith, read.2, read.1.1, is, h.1),
-            )
-
-        -- and one that is read tells what its kind does
-        pub file-read : (mid2 : ℕ) → mid2 + looking ≡ mid → (said2 : List Finding)
-            (children2 : List Place) (new : ℕ) (r : Result (Unit {0}) Stop)
+          (read : Spends (λ n. Has s file octets × (n ≡ found_cost (Ok octets))) old mid) where
+        -- one that is read tells what its kind does
+        pub file-read : (said2 : List Finding) (children2 : List Place) (new : ℕ)
+            (r : Result (Unit {0}) Stop)
             → IsOutcome (ChildCosts s ca list (file.0) octets)
             (λ _ n. AppendsBoth (KindTells s ca list until under (file.0) octets
             (kind_of (file.0))) said said2 children children2
-            × ChildCosts s ca list (file.0) octets n) (λ cause n. ⊥) mid2 new r
+            × ChildCosts s ca list (file.0) octets n) (λ cause n. ⊥) mid new r
             → IsOutcome (FileStarts s ca list_uri list file) (λ _ n. FileDone said2 children2 n)
             (WhyLost s list_uri file) old new r
-        file-read mid2 looked said2 children2 new r h =
-            outcome-then {F = Read} {B = ChildCosts s ca list (file.0) octets}
-            (FileStarts s ca list_uri list file)
-            (λ a b f c. (other, inr (octets, b, f.0, inr c, sum a b (f.1))))
-            {V = λ cause n. ⊥} (WhyLost s list_uri file) (λ cause a b f w. absurd w) old mid2 new
-            (read.0 + lookup_cost list, both, omega (arith, looked, is, read.2))
+        file-read said2 children2 new r h =
+            outcome-then {F = λ n. Has s file octets × (n ≡ found_cost (Ok octets))}
+            {B = ChildCosts s ca list (file.0) octets} (FileStarts s ca list_uri list file)
+            (λ a b f c. (other, inr (octets, b, f.0, c, sum a b (f.1))))
+            {V = λ cause n. ⊥} (WhyLost s list_uri file) (λ cause a b f w. absurd w) old mid new read
             {Y = λ _ n. AppendsBoth (KindTells s ca list until under (file.0) octets
             (kind_of (file.0))) said said2 children children2
             × ChildCosts s ca list (file.0) octets n}
@@ -110,16 +93,8 @@ module _ (s : Setting) (ca : Validated) (list_uri : List ℕ) (list : Revocation
               inr (other, (octets, b, f.0, t.1, sum a b (f.1))),
             )) r h
           where
-            Read : ℕ → Type 0
-            Read n = Has s file octets × (n ≡ found_cost (Ok octets) + lookup_cost list)
-
-            both : Has s file octets
-                × (read.0 + lookup_cost list ≡ found_cost (Ok octets) + lookup_cost list)
-            both = (read.1.0, ap (λ (n : ℕ). n + lookup_cost list) (read.1.1))
-
-            sum : (a b : ℕ) → a ≡ found_cost (Ok octets) + lookup_cost list
-                → a + b ≡ found_cost (Ok octets) + (lookup_cost list + b)
-            sum a b e = omega (arith, e)
+            sum : (a b : ℕ) → a ≡ found_cost (Ok octets) → a + b ≡ found_cost (Ok octets) + b
+            sum a b e = ap (λ (n : ℕ). n + b) e
 
 -- What those that are left tell goes on what was told so far, and those before are there, at this
 -- cost.

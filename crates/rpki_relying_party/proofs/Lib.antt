@@ -13,6 +13,7 @@ pub mod Repeating
 pub mod Asking
 pub mod Manifests
 pub mod Crls
+pub mod Halves
 pub mod Revoking
 pub mod Objects
 pub mod Certificates

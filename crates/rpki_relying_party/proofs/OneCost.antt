@@ -8,7 +8,8 @@ use Rattle.rpki_certs.specs.Validate.{Validated}
 use Rattle.rpki_files.specs.Manifest.{Manifest}
 use Rattle.rpki_files.specs.Manifest.Uris.{UriAndHash, uris_of}
 use Rattle.rpki_relying_party.specs.Costs.{opening_cost, found_cost, waiting_cost, ReadCosts}
-use Rattle.rpki_relying_party.specs.Costs.{ReadStarts, ChildCosts, FileCosts, FileStarts, LostCosts}
+use Rattle.rpki_relying_party.specs.Costs.{ReadStarts, ChildCosts, JudgedCosts, FileCosts}
+use Rattle.rpki_relying_party.specs.Costs.{FileStarts, LostCosts}
 use Rattle.rpki_relying_party.specs.Costs.{FilesCost, FilesLost, FilesStart, ListCosts, ListStarts}
 use Rattle.rpki_relying_party.specs.Costs.{ListedCosts, ListedStarts, PointCosts, PointStarts}
 use Rattle.rpki_relying_party.specs.Costs.{OnPlace, PlaceCosts, PlaceExceeds}
@@ -56,27 +57,20 @@ module _ (s : Setting) (one : FindsOne s) where
       one-child uri octets m n (inr h) (inl g) = absurd (h.0 (g.0) (g.1))
       one-child uri octets m n (inr h) (inr g) = h.1 ∙ sym (g.1)
 
-      -- of the same octets
-      same-child : (uri a b : List ℕ) (m n : ℕ) → a ≡ b → ChildCosts s ca list uri a m
-          → ChildCosts s ca list uri b n → m ≡ n
-      same-child uri a b m n e h g = one-child uri b m n
-          (subst (λ (o : List ℕ). ChildCosts s ca list uri o m) e h) g
-
       module _ (file : UriAndHash) (m n : ℕ) where
+        one-judged : JudgedCosts s ca list file m → JudgedCosts s ca list file n → m ≡ n
+        one-judged h g =
+            let same = has-one s one file (h.0) (g.0) (h.2) (g.2) in
+            let child = one-child (file.0) (g.0) (h.1) (g.1) (subst (λ (o : List ℕ).
+            ChildCosts s ca list (file.0) o (h.1)) same (h.3)) (g.3) in
+            omega (arith, h.4, g.4, ap (λ (o : List ℕ). length o) same, child)
+
         one-file : FileCosts s ca list_uri list file m → FileCosts s ca list_uri list file n
             → m ≡ n
         one-file (inl h) (inl g) = h.1 ∙ sym (g.1)
         one-file (inl h) (inr g) = absurd (g.0 (h.0))
         one-file (inr h) (inl g) = absurd (h.0 (g.0))
-        one-file (inr h) (inr g) =
-            let same = has-one s one file (h.1.0) (g.1.0) (h.1.2) (g.1.2) in
-            omega (
-              arith,
-              h.1.4,
-              g.1.4,
-              ap (λ (o : List ℕ). length o) same,
-              same-child (file.0) (h.1.0) (g.1.0) (h.1.1) (g.1.1) same (h.1.3) (g.1.3),
-            )
+        one-file (inr h) (inr g) = one-judged (h.1) (g.1)
 
         file-starts : FileStarts s ca list_uri list file m → FileCosts s ca list_uri list file n
             → m ≤ n
@@ -88,18 +82,7 @@ module _ (s : Setting) (one : FindsOne s) where
             read-starts (file.0) m (found_cost (Ok (g.1.0))) r
                 (Ok (g.1.0), g.1.2.0, refl),
           )
-          | inr j ↦ (let same = has-one s one file (j.0) (g.1.0) (j.2) (g.1.2) in
-              let long = ap (λ (o : List ℕ). length o) same in
-              elim (j.3) [
-                | inl none ↦ omega (arith, j.4, g.1.4, long, none)
-                | inr child ↦ omega (
-                  arith,
-                  j.4,
-                  g.1.4,
-                  long,
-                  same-child (file.0) (j.0) (g.1.0) (j.1) (g.1.1) same child (g.1.3),
-                )
-              ])
+          | inr j ↦ omega (arith, one-judged j (g.1))
         ]
 
         -- one that is lost is not there

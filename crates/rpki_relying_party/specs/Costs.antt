@@ -1,6 +1,6 @@
 -- How much work it is to read a publication point: the files that are looked for, the octets that
--- are read, the look-ups in the revocation list, and what the places take that wait.
-use Rattle.std.specs.Prelude.{◌≡◌, ◌⊎◌, ℕ, ◌+◌, ◌*◌, ◌/◌, ◌<◌, List, [], ◌∷◌, ◌++◌, length, Result}
+-- are read, and what the places take that wait.
+use Rattle.std.specs.Prelude.{◌≡◌, ◌⊎◌, ℕ, ◌+◌, ◌*◌, ◌<◌, List, [], ◌∷◌, ◌++◌, length, Result}
 use Rattle.std.specs.Prelude.{Ok, Err}
 use Rattle.rpki_crls.specs.Crl.{RevocationList}
 use Rattle.rpki_certs.specs.Cert.{Certificate}
@@ -29,10 +29,6 @@ abbrev pub found_cost : Result (List ℕ) NoFile → ℕ
 found_cost (Ok octets) = opening_cost + length octets
 found_cost (Err why) = opening_cost
 
--- to look a certificate up in a list, whose entries are all gone through: one for each 16 octets
-abbrev pub lookup_cost : RevocationList → ℕ
-lookup_cost list = length list.signed / 16
-
 -- what a place takes that waits: 16,384, and 64 for each block of its sets
 abbrev pub waiting_cost : Validated → ℕ
 waiting_cost v = 16384 + 64 * (length v.sets.as_numbers + (length v.sets.v4 + length v.sets.v6))
@@ -57,24 +53,22 @@ ChildCosts s ca list uri octets n =
     ((v : Validated) × HoldsCa s ca list uri octets v × (n ≡ waiting_cost v))
     ⊎ (((v : Validated) → ¬ HoldsCa s ca list uri octets v) × (n ≡ 0))
 
--- What is spent on a listed file that the copy has: on its octets, on the look-up, and on the place
--- that it holds, so much.
-abbrev pub JudgedCosts : Setting → RevocationList → UriAndHash → (List ℕ → ℕ → Type 0) → ℕ → Type 0
-JudgedCosts s list file Child n = (octets : List ℕ) × (m : ℕ) × Has s file octets
-    × Child octets m × (n ≡ found_cost (Ok octets) + (lookup_cost list + m))
+-- What is spent on a listed file that the copy has: on its octets, and on the place that they hold.
+abbrev pub JudgedCosts : Setting → Validated → RevocationList → UriAndHash → ℕ → Type 0
+JudgedCosts s ca list file n = (octets : List ℕ) × (m : ℕ) × Has s file octets
+    × ChildCosts s ca list (file.0) octets m × (n ≡ found_cost (Ok octets) + m)
 
 -- What is spent on a listed file that is there. On the revocation list, which has the first of
 -- these URIs, nothing is spent: it was read before.
 abbrev pub FileCosts : Setting → Validated → List ℕ → RevocationList → UriAndHash → ℕ → Type 0
 FileCosts s ca list_uri list file n =
-    ((file.0 ≡ list_uri) × (n ≡ 0))
-    ⊎ ((¬ (file.0 ≡ list_uri)) × JudgedCosts s list file (ChildCosts s ca list (file.0)) n)
+    ((file.0 ≡ list_uri) × (n ≡ 0)) ⊎ ((¬ (file.0 ≡ list_uri)) × JudgedCosts s ca list file n)
 
--- What is spent on some first steps with a listed file: on looking for it, on reading it, on the
--- look-up, or on all.
+-- What is spent on some first steps with a listed file: on looking for it, on reading it, or on
+-- all.
 abbrev pub FileStarts : Setting → Validated → List ℕ → RevocationList → UriAndHash → ℕ → Type 0
-FileStarts s ca list_uri list file n = (¬ (file.0 ≡ list_uri)) × (ReadStarts s (file.0) n
-    ⊎ JudgedCosts s list file (λ octets m. (m ≡ 0) ⊎ ChildCosts s ca list (file.0) octets m) n)
+FileStarts s ca list_uri list file n =
+    (¬ (file.0 ≡ list_uri)) × (ReadStarts s (file.0) n ⊎ JudgedCosts s ca list file n)
 
 -- What is spent on a listed file that refuses the point.
 abbrev pub LostCosts : Setting → List ℕ → UriAndHash → ℕ → Type 0

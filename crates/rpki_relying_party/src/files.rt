@@ -20,7 +20,7 @@ use crate::cause::{Cause, Stop};
 use crate::copy::Repository;
 use crate::found::{BoxedRefusal, Finding, Refusal};
 use crate::kind::{ListedKind, kind_of};
-use crate::list::{List, lookup_cost};
+use crate::list::List;
 use crate::memory::{is_check_memory, is_issuer_memory};
 use crate::pass::Pass;
 use crate::payload::{Held, Payload, origin_of, provider_of};
@@ -30,7 +30,6 @@ use crate::under::{aspa_under, ca_under, roa_under};
 use bytes::Bytes;
 use rpki_basics::{Crypto, Rsync, Time};
 use rpki_certs::{Cert, IssuerError, ResourceCert};
-use rpki_crls::Crl;
 use rpki_der::DecodeError;
 use rpki_faults::KeyUsage;
 use rpki_files::{ManifestContent, ManifestHash};
@@ -486,14 +485,7 @@ fn process_file<R: Repository, C: Crypto>(
         }
         Ok(octets) => {
             drop(hash);
-            match spend(room, lookup_cost(above.list)) {
-                Err(stop) => {
-                    drop(uri);
-                    drop(octets);
-                    Err(stop)
-                }
-                Ok(()) => process_read(alloc, pass, above, uri, octets, findings, room),
-            }
+            process_read(alloc, pass, above, uri, octets, findings, room)
         }
     }
 }

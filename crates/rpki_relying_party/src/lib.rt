@@ -20,6 +20,7 @@ mod places;
 mod point;
 mod queue;
 mod reader;
+mod revoked;
 mod run;
 mod under;
 mod walk;

@@ -8,7 +8,7 @@ ghost use Rattle.rpki_der.specs.Grammar.{HasNoFront};
 ghost use Rattle.rpki_crls.specs.Crl.{CrlForm};
 ghost use Rattle.rpki_faults.specs.Checks.{AnswersFirstFault};
 ghost use Rattle.rpki_files.specs.Manifest.Uris.{uris_of};
-ghost use Rattle.rpki_relying_party.specs.Costs.{ListCosts, ListStarts, lookup_cost};
+ghost use Rattle.rpki_relying_party.specs.Costs.{ListCosts, ListStarts};
 ghost use Rattle.rpki_relying_party.specs.Lacks.{WhyNoList, list_checks};
 ghost use Rattle.rpki_relying_party.specs.Outcome.{IsOutcome};
 ghost use Rattle.rpki_relying_party.specs.Passes.{setting};
@@ -22,6 +22,7 @@ use crate::copy::Repository;
 use crate::manifest::Manifest;
 use crate::pass::Pass;
 use crate::reader::read_listed;
+use crate::revoked::SortedCrl;
 use bytes::Bytes;
 use rpki_basics::{Crypto, Rsync, Time};
 use rpki_certs::{Cert, ResourceCert};
@@ -34,14 +35,7 @@ use std::alloc::{AllocError, Global};
 #[derive(Drop)]
 pub(crate) struct List {
     pub uri: Rsync,
-    pub crl: Crl,
-}
-
-/// What it costs to look a certificate up in the list.
-pub(crate) fn lookup_cost(list: &List) -> u128
-    ensures { result ≡ lookup_cost list.now.crl.list }
-{
-    (list.crl.signed().len() / 16) as u128
+    pub crl: SortedCrl,
 }
 
 // Whether two URIs are the same.
@@ -137,6 +131,26 @@ fn list_uri_of(signer: &ResourceCert) -> Option<&Rsync>
     signer.cert().crl_uri()
 }
 
+// A list with a copy of its URI, and with its serial numbers in order.
+fn keep_list(alloc: Global, uri: &Rsync, crl: Crl) -> Result<List, AllocError>
+    ensures uri { IfOk result (λ list. list.uri ≡ uri.now) }
+    ensures crl { IfOk result (λ list. list.crl ≡ crl) }
+{
+    match uri.clone() {
+        Err(error) => {
+            drop(crl);
+            Err(error)
+        }
+        Ok(uri) => match SortedCrl::new(alloc, crl) {
+            Err(error) => {
+                drop(uri);
+                Err(error)
+            }
+            Ok(crl) => Ok(List { uri, crl }),
+        },
+    }
+}
+
 /// The revocation list that the certificate of a manifest names, where it is a listed file, a list
 /// of the CA, and does not revoke that certificate (RFC 6487, section 5; RFC 9286, section 6).
 pub(crate) fn find_crl<R: Repository, C: Crypto>(
@@ -171,11 +185,8 @@ pub(crate) fn find_crl<R: Repository, C: Crypto>(
         drop(crl);
         return Err(Stop::Refused(Cause::List(fault)));
     }
-    match uri.clone() {
-        Err(_) => {
-            drop(crl);
-            Err(Stop::Memory)
-        }
-        Ok(uri) => Ok(List { uri, crl }),
+    match keep_list(alloc, uri, crl) {
+        Err(_) => Err(Stop::Memory),
+        Ok(list) => Ok(list),
     }
 }

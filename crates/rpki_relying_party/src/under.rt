@@ -14,17 +14,17 @@ ghost use Rattle.rpki_signed.specs.Check.{Checks};
 ghost use Rattle.rpki_signed.specs.Exact.{IsExact};
 ghost use Rattle.rpki_relying_party.specs.Under.{SaysOf, SaysAs, IsCaUnder};
 
+use crate::revoked::SortedCrl;
 use bytes::Bytes;
 use rpki_basics::{Crypto, ProviderLimit, Time};
 use rpki_certs::{Cert, IssuerError, ResourceCert};
-use rpki_crls::Crl;
 use rpki_faults::{ValidationError, VerificationError};
 use rpki_routes::{AsProviderAttestation, RouteOriginAttestation};
 use rpki_signed::check::{self, CheckError};
 use std::alloc::Global;
 
 // Verifies that a list does not revoke a certificate. Where it does, that is the caller's refusal.
-fn verify_unrevoked(list: &Crl, cert: &Cert) -> Result<(), ValidationError>
+fn verify_unrevoked(list: &SortedCrl, cert: &Cert) -> Result<(), ValidationError>
     ensures { SaysOf list.now.list cert.now result }
 {
     if list.contains(cert.serial_number()) {
@@ -83,7 +83,7 @@ pub fn roa_under<C: Crypto>(
     alloc: Global,
     octets: Bytes,
     issuer: &ResourceCert,
-    list: &Crl,
+    list: &SortedCrl,
     crypto: &C,
     now: Time,
 ) -> Result<(ResourceCert, RouteOriginAttestation), CheckError>
@@ -109,7 +109,7 @@ pub fn aspa_under<C: Crypto>(
     alloc: Global,
     octets: Bytes,
     issuer: &ResourceCert,
-    list: &Crl,
+    list: &SortedCrl,
     crypto: &C,
     now: Time,
     limit: ProviderLimit,
@@ -156,7 +156,7 @@ pub fn ca_under<C: Crypto>(
     alloc: Global,
     octets: Bytes,
     issuer: &ResourceCert,
-    list: &Crl,
+    list: &SortedCrl,
     crypto: &C,
     now: Time,
 ) -> Result<ResourceCert, IssuerError>

@@ -4,7 +4,7 @@ use Rattle.rpki_relying_party.specs.Outcome.{AppendsBoth}
 use Rattle.rpki_relying_party.specs.Passes.{setting}
 use Rattle.rpki_relying_party.specs.Point.{Has}
 use Rattle.rpki_relying_party.specs.Tells.{FileTells}
-use Rattle.rpki_relying_party.proofs.Filing.{list-passed, file-lost, no-lookup, file-read}
+use Rattle.rpki_relying_party.proofs.Filing.{list-passed, file-lost, file-read}
 use Rattle.rpki_relying_party.proofs.files.process_file.Goals as goal
 
 pub returns-then-are_same : goal.returns-then-are_same
@@ -34,26 +34,8 @@ returns-in-Err g c =
     × FileCosts s above.ca.now above.list.now.uri list c.args.listed n)
     c.args.room.now c.read_listed.new.room c.in-Err.stop c.in-Err.ensures
 
-pub returns-in-Err-spend : goal.returns-in-Err-spend
-returns-in-Err-spend g c =
-    let s = setting g.R.Repository.finds g.C.Crypto.digest_of g.C.Crypto.is_signed
-    c.args.pass.now in
-    let above = c.args.above.now in
-    let list = above.list.now.crl.list in
-    no-lookup s above.ca.now above.list.now.uri list above.until above.manifest.now c.args.listed
-    c.args.findings.now.said.items c.args.findings.now.children.items
-    (λ e. true≢false (sym (c.are_same.ensures.1 e) ∙ c.if-are_same.false)) c.in-Ok.octets
-    c.args.room.now c.read_listed.new.room c.in-Ok.ensures c.lookup_cost.result
-    c.lookup_cost.ensures
-    (λ (_ : Unit {0}) n. AppendsBoth (FileTells s above.ca.now
-    above.list.now.uri list above.until above.manifest.now c.args.listed)
-    c.args.findings.now.said.items c.args.findings.now.said.items
-    c.args.findings.now.children.items c.args.findings.now.children.items
-    × FileCosts s above.ca.now above.list.now.uri list c.args.listed n)
-    c.spend.new.room c.in-Err-spend.stop c.in-Err-spend.ensures
-
-pub returns-in-Ok-spend : goal.returns-in-Ok-spend
-returns-in-Ok-spend g c =
+pub returns-in-Ok : goal.returns-in-Ok
+returns-in-Ok g c =
     let s = setting g.R.Repository.finds g.C.Crypto.digest_of g.C.Crypto.is_signed
     c.args.pass.now in
     let above = c.args.above.now in
@@ -61,8 +43,6 @@ returns-in-Ok-spend g c =
     file-read s above.ca.now above.list.now.uri list above.until above.manifest.now c.args.listed
     c.args.findings.now.said.items c.args.findings.now.children.items
     (λ e. true≢false (sym (c.are_same.ensures.1 e) ∙ c.if-are_same.false)) c.in-Ok.octets
-    c.args.room.now c.read_listed.new.room c.in-Ok.ensures c.lookup_cost.result
-    c.lookup_cost.ensures c.spend.new.room
-    c.in-Ok-spend.ensures
+    c.args.room.now c.read_listed.new.room c.in-Ok.ensures
     c.process_read.new.findings.said.items c.process_read.new.findings.children.items
     c.process_read.new.room c.process_read.result c.process_read.ensures
