@@ -32,7 +32,7 @@ module _ {P X : Type 0} (tells : P → List X → List P → Type 0) (costs exce
   abbrev places : List P
   places = places_read w.reads ++ places_left unread
 
-  told : (r : Read P X) → Contains w.reads r → tells r.place r.said r.children
+  pub told : (r : Read P X) → Contains w.reads r → tells r.place r.said r.children
   told r c = All-contains (λ r. tells r.place r.said r.children) w.reads r w.told c
 
   is-child : (p q : P) → IsToldChild w.reads p q → IsChild tells p q
@@ -62,59 +62,89 @@ module _ {P X : Type 0} (tells : P → List X → List P → Type 0) (costs exce
     ))
   ]
 
+  abbrev Known : P → Type 0
+  Known q = HasKey key places (key q)
+
+  begun : Known start
+  begun = (
+    start,
+    Contains-append_left (places_read w.reads) (places_left unread) start
+        (contains-mapped (λ (r : Read P X). r.place) w.reads first
+        (subst (λ (l : List (Read P X)). Contains l first) (sym (w.begun.1))
+        (contains-first first (w.begun.0)))),
+    refl,
+  )
+
+  -- a place with the key of this one was read
+  abbrev pub HasRead : P → Type 0
+  HasRead p = (r : Read P X) × Contains w.reads r × (key r.place ≡ key p)
+
+  read-or-left : (q : P) (path : List P) → Known q
+      → HasRead q ⊎ Passes key (places_left unread) q path
+  read-or-left q path k =
+      elim (Contains-append_cases (places_read w.reads) (places_left unread) (k.0) (k.1)) [
+        | inl done ↦ (let r = mapped-from (λ (r : Read P X). r.place) w.reads (k.0) done in
+            inl (r.0, r.1, ap key (r.2) ∙ k.2))
+        | inr left ↦ inr (q, k.0, contains-first q path, left, sym (k.2))
+      ]
+
+  further : (q c : P) (path : List P) (p : P)
+      → HasRead p ⊎ Passes key (places_left unread) c path
+      → HasRead p ⊎ Passes key (places_left unread) q (c ∷ path)
+  further q c path p (inl r) = inl r
+  further q c path p (inr h) = inr (h.0, h.1, contains-rest q (h.0) (c ∷ path) (h.2), h.3, h.4)
+
+  -- Of any children, each of which is told where a place with its parent's key is read.
+  module _ (child : P → P → Type 0)
+      (is_told : (p c : P) (r : HasRead p) → child p c → HasKey key r.0.children (key c)) where
+    known-child : (q c : P) → HasRead q → child q c → Known c
+    known-child q c r h =
+        let d = is_told q c r h in
+        subst (HasKey key (places_read w.reads ++ places_left unread)) (d.2)
+        (All-contains (λ b. Known b) r.0.children (d.0)
+        (All-contains (λ r. All (λ b. Known b) r.children) w.reads (r.0) w.closed (r.1)) (d.1))
+
+    along : (path : List P) (q p : P) → Known q → Leads child q path p
+        → HasRead p ⊎ Passes key (places_left unread) q path
+    along [] q p k e = elim (read-or-left q [] k) [
+      | inl r ↦ inl (r.0, r.1, r.2 ∙ ap key e)
+      | inr left ↦ inr left
+    ]
+    along (c ∷ path) q p k h = elim (read-or-left q (c ∷ path) k) [
+      | inl r ↦ further q c path p (along path c p (known-child q c r (h.0)) (h.1))
+      | inr left ↦ inr left
+    ]
+
+    -- a place to which a chain of them leads was read, or the chain passes one that was left
+    pub reached : (path : List P) (p : P) → Leads child start path p
+        → HasRead p ⊎ Passes key (places_left unread) start path
+    reached path p h = along path start p begun h
+
   module _ (alike : X → X → Type 0) (one : TellsOne tells key alike) where
     -- what a place says whose key was read is found
-    heard : (p : P) (r : Read P X) → Contains w.reads r → key p ≡ key r.place
-        → IsFound tells alike has p
-    heard p r c e = λ x h.
-        let z = one p r.place (h.0) r.said (h.1) r.children e (h.2) (told r c) in
-        let y = beside alike (h.0) r.said (z.0) x (h.3) in (
+    heard : (p : P) → HasRead p → IsFound tells alike has p
+    heard p r = λ x h.
+        let z = one p r.0.place (h.0) r.0.said (h.1) r.0.children (sym (r.2)) (h.2)
+        (told (r.0) (r.1)) in
+        let y = beside alike (h.0) r.0.said (z.0) x (h.3) in (
           y.0,
           y.2,
-          All-contains has r.said (y.0) (All-contains (λ r. All has r.said) w.reads r
-              w.kept c) (y.1),
+          All-contains has r.0.said (y.0) (All-contains (λ r. All has r.said) w.reads (r.0)
+              w.kept (r.1)) (y.1),
         )
 
-    further : (q c : P) (path : List P) (p : P)
-        → IsFound tells alike has p ⊎ Passes key (places_left unread) c path
-        → IsFound tells alike has p ⊎ Passes key (places_left unread) q (c ∷ path)
-    further q c path p (inl f) = inl f
-    further q c path p (inr h) = inr (h.0, h.1, contains-rest q (h.0) (c ∷ path) (h.2), h.3, h.4)
-
-    abbrev Known : P → Type 0
-    Known q = HasKey key (places) (key q)
-
-    along : (path : List P) (q p : P) → Known q → Leads (IsChild tells) q path p
-        → IsFound tells alike has p ⊎ Passes key (places_left unread) q path
-    along [] q p k e =
-        elim (Contains-append_cases (places_read w.reads) (places_left unread) (k.0) (k.1)) [
-          | inl done ↦ (let r = mapped-from (λ (r : Read P X). r.place) w.reads (k.0) done in
-              inl (heard p (r.0) (r.1) (ap key (sym e) ∙ sym (k.2) ∙ ap key (sym (r.2)))))
-          | inr left ↦ inr (q, k.0, contains-first q [], left, sym (k.2))
-        ]
-    along (c ∷ path) q p k h =
-        elim (Contains-append_cases (places_read w.reads) (places_left unread) (k.0) (k.1)) [
-          | inl done ↦ (let r = mapped-from (λ (r : Read P X). r.place) w.reads (k.0) done in
-              let z = one q r.0.place (h.0.0) r.0.said (h.0.1) r.0.children
-              (sym (k.2) ∙ ap key (sym (r.2))) (h.0.2) (told (r.0) (r.1)) in
-              let d = beside (λ a b. key a ≡ key b) (h.0.1) r.0.children (z.1) c (h.0.3) in
-              further q c path p (along path c p (subst (HasKey key (places_read w.reads
-              ++ places_left unread)) (sym (d.2)) (All-contains (λ b. Known b) r.0.children (d.0)
-              (All-contains (λ r. All (λ b. Known b) r.children) w.reads (r.0) w.closed (r.1))
-              (d.1))) (h.1)))
-          | inr left ↦ inr (q, k.0, contains-first q (c ∷ path), left, sym (k.2))
-        ]
-
-    begun : Known start
-    begun = (
-      start,
-      Contains-append_left (places_read w.reads) (places_left unread) start
-          (contains-mapped (λ (r : Read P X). r.place) w.reads first
-          (subst (λ (l : List (Read P X)). Contains l first) (sym (w.begun.1))
-          (contains-first first (w.begun.0)))),
-      refl,
-    )
+    -- and its children were told
+    told-child : (p c : P) (r : HasRead p) → IsChild tells p c
+        → HasKey key r.0.children (key c)
+    told-child p c r h =
+        let z = one p r.0.place (h.0) r.0.said (h.1) r.0.children (sym (r.2)) (h.2)
+        (told (r.0) (r.1)) in
+        let d = beside (λ a b. key a ≡ key b) (h.1) r.0.children (z.1) c (h.3) in
+        (d.0, d.1, sym (d.2))
 
     pub complete : (path : List P) (p : P) → Leads (IsChild tells) start path p
         → IsFound tells alike has p ⊎ Passes key (places_left unread) start path
-    complete path p h = along path start p begun h
+    complete path p h = elim (reached (IsChild tells) told-child path p h) [
+      | inl r ↦ inl (heard p r)
+      | inr left ↦ inr left
+    ]

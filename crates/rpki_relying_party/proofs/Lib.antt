@@ -30,7 +30,10 @@ pub mod Splits
 pub mod OnePoint
 pub mod Sameness
 pub mod OneTelling
+pub mod OneAnchor
+pub mod OneCost
 pub mod Publishing
+pub mod Publications
 pub mod Holding
 pub mod Ending
 pub mod Running

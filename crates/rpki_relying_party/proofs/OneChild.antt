@@ -32,7 +32,7 @@ use Rattle.rpki_relying_party.proofs.Objects.{refuses}
 -- ---- validated sets
 
 -- a claim names one set
-one-named : (claim : Claim (List (Block ℕ))) (a b : List (Block ℕ)) → HasBlocks claim a
+pub one-named : (claim : Claim (List (Block ℕ))) (a b : List (Block ℕ)) → HasBlocks claim a
     → HasBlocks claim b → a ≡ b
 one-named Missing a b h g = h ∙ sym g
 one-named Inherit a b h g = absurd h
@@ -64,10 +64,10 @@ module _ (issuer a b : List (Block ℕ)) (ca : IsCanonical (λ (n : ℕ). n) a)
       (subst (λ (n : List (Block ℕ)). IsLeft (λ (m : ℕ). m) policy n issuer b)
       (one-named claim (g.0) (h.0) (g.1) (h.1)) (g.2))
 
-same-sets : (a b : Sets) → a.as_numbers ≡ b.as_numbers → a.v4 ≡ b.v4 → a.v6 ≡ b.v6 → a ≡ b
+pub same-sets : (a b : Sets) → a.as_numbers ≡ b.as_numbers → a.v4 ≡ b.v4 → a.v6 ≡ b.v6 → a ≡ b
 same-sets a b p q r = λ i. record { as_numbers = p i; v4 = q i; v6 = r i }
 
-same-validated : (v w : Validated) → v.cert ≡ w.cert → v.sets ≡ w.sets → v ≡ w
+pub same-validated : (v w : Validated) → v.cert ≡ w.cert → v.sets ≡ w.sets → v ≡ w
 same-validated v w p q = λ i. record { cert = p i; sets = q i }
 
 -- canonical validated sets of the same claims are the same

@@ -302,7 +302,7 @@ module _ (s : Setting) (one : FindsOne s) where
           none-stays fault (inr h) = bad-stays fault (subst (λ (o : List ℕ). IsBadBy o fault)
               (found-one uri (h.0) m.octets (h.1) m.found) (h.2))
 
-          manifest-stays : (cause : Cause) → WhyNoManifestOf s ca folder uri cause → ⊥
+          pub manifest-stays : (cause : Cause) → WhyNoManifestOf s ca folder uri cause → ⊥
           manifest-stays (causes.Manifest fault) h = none-stays fault (none-by uri fault h)
           manifest-stays cause h = h
 
@@ -330,7 +330,7 @@ module _ (s : Setting) (one : FindsOne s) where
                 g.list_of),
           )
 
-      one-list-file : Once → (f g : UriAndHash) → IsListFile folder signer manifest f
+      pub one-list-file : Once → (f g : UriAndHash) → IsListFile folder signer manifest f
           → IsListFile folder signer manifest g → f ≡ g
       one-list-file once f g h k = once-one (uris_of folder manifest.files) once f g h.listed
           k.listed (one-some signer.tbs.extensions.locations.crl (f.0) (g.0) h.named k.named)
@@ -434,6 +434,12 @@ module _ (s : Setting) (one : FindsOne s) where
                 (subst (λ (f : UriAndHash). Has s f (bad.0)) same (bad.1)) l.found) (bad.2))
           ]
 
+      pub list-stays : (uri : List ℕ) (list : RevocationList) → Once
+          → IsListAt s ca folder signer manifest uri list → (cause : Cause)
+          → WhyNoList s ca folder signer manifest cause → ⊥
+      list-stays uri list once l cause w =
+          list-stays-by uri list once l cause (list-by cause w)
+
     -- ---- the point
 
     module _ (folder uri : List ℕ) where
@@ -462,11 +468,9 @@ module _ (s : Setting) (one : FindsOne s) where
           one-list-by folder signer manifest m.once a b (list-by folder signer manifest a h)
           (list-by folder signer manifest b g)
       one-why-rest signer manifest m a b (inl h) (inr g) =
-          absurd (list-stays-by folder signer manifest (g.0) (g.1) m.once (g.2) a
-          (list-by folder signer manifest a h))
+          absurd (list-stays folder signer manifest (g.0) (g.1) m.once (g.2) a h)
       one-why-rest signer manifest m a b (inr h) (inl g) =
-          absurd (list-stays-by folder signer manifest (h.0) (h.1) m.once (h.2) b
-          (list-by folder signer manifest b g))
+          absurd (list-stays folder signer manifest (h.0) (h.1) m.once (h.2) b g)
       one-why-rest signer manifest m a b (inr h) (inr g) =
           one-why-files (h.0) (uris_of folder manifest.files) a b (h.3)
           (subst (λ (u : List ℕ). WhyNoFiles s (uris_of folder manifest.files) u b)
@@ -489,8 +493,8 @@ module _ (s : Setting) (one : FindsOne s) where
       rest-stays : (p : Point) (h : IsPointIn s ca folder uri p)
           → All (IsThere p.list_uri) (uris_of folder p.manifest.files) → (cause : Cause)
           → WhyNoRest p.signer p.manifest cause → ⊥
-      rest-stays p h there cause (inl w) = list-stays-by folder p.signer p.manifest p.list_uri
-          p.list h.manifest.once h.list cause (list-by folder p.signer p.manifest cause w)
+      rest-stays p h there cause (inl w) = list-stays folder p.signer p.manifest p.list_uri
+          p.list h.manifest.once h.list cause w
       rest-stays p h there cause (inr w) =
           let same = one-list folder p.signer p.manifest (w.0) p.list_uri (w.1) p.list (w.2) h.list
           in

@@ -119,12 +119,14 @@ module _ (s : Setting) (ca : Validated) (list : RevocationList) (octets : List �
   roa-stays cert roa h error r =
       content-stays s roa_kind RoaForm ca list octets roa-sound cert roa h error (r.0) (r.1)
 
-  roa-not-refused : (cert : Certificate) (roa : Roa) → HasRoa s ca list octets cert roa
-      → (cause : Cause) → IsRoaBy cause → ⊥
-  roa-not-refused cert roa h cause (inl r) = roa-stays cert roa (h.0) (r.0) (r.2)
-  roa-not-refused cert roa h cause (inr r) = r.1.3
+  -- what is good is not refused
+  pub roa-not-refused : (cert : Certificate) (roa : Roa) → HasRoa s ca list octets cert roa
+      → (cause : Cause) → WhyNoRoa s ca list octets cause → ⊥
+  roa-not-refused cert roa h (causes.Object error) r = roa-stays cert roa (h.0) error r
+  roa-not-refused cert roa h causes.RoaCertificate r = r.3
       (subst (λ (c : Certificate). NamesPrefixesAlone c.tbs.extensions.claims)
-      (one-roa cert (r.1.0) roa (r.1.1) (h.0) (r.1.2)).0 (h.1))
+      (one-roa cert (r.0) roa (r.1) (h.0) (r.2)).0 (h.1))
+  roa-not-refused cert roa h cause r = r
 
   one-why-roa : (a b : Cause) → IsRoaBy a → IsRoaBy b → shown a ≡ shown b
   one-why-roa a b (inl h) (inl g) = ap (λ (c : Cause). shown c) (h.1)
@@ -146,6 +148,12 @@ module _ (s : Setting) (ca : Validated) (list : RevocationList) (octets : List �
   aspa-by (causes.Object error) h = (error, refl, h.0, h.1)
   aspa-by cause h = absurd h
 
+  pub aspa-not-refused : (cert : Certificate) (aspa : Aspa) → HasAspa s ca list octets cert aspa
+      → (cause : Cause) → WhyNoAspa s ca list octets cause → ⊥
+  aspa-not-refused cert aspa h (causes.Object error) r = content-stays s aspa_kind
+      (AspaForm s.providers) ca list octets aspa-sound cert aspa h error (r.0) (r.1)
+  aspa-not-refused cert aspa h cause r = r
+
   one-why-aspa : (a b : Cause) → IsAspaBy a → IsAspaBy b → shown a ≡ shown b
   one-why-aspa a b h g = ap (λ (c : Cause). shown c) (h.1)
       ∙ ap (λ (e : CheckError). causes.Object e) (one-error s aspa_kind (AspaForm s.providers) ca
@@ -160,6 +168,12 @@ module _ (s : Setting) (ca : Validated) (list : RevocationList) (octets : List �
   ca-by : (cause : Cause) → WhyNoCa s ca list octets cause → IsCaBy cause
   ca-by (causes.Certificate error) h = (error, refl, h.0, h.1, h.2)
   ca-by cause h = absurd h
+
+  pub ca-not-refused : (v : Validated) → HasCa s ca list octets v → (cause : Cause)
+      → WhyNoCa s ca list octets cause → ⊥
+  ca-not-refused v h (causes.Certificate error) r =
+      has-no-ca s ca list octets error (r.0) (r.1) v h
+  ca-not-refused v h cause r = r
 
   one-why-ca : (a b : Cause) → IsCaBy a → IsCaBy b → shown a ≡ shown b
   one-why-ca a b h g = ap (λ (c : Cause). shown c) (h.1)
@@ -192,17 +206,10 @@ module _ (s : Setting) (ca : Validated) (list : RevocationList) (octets : List �
         zip-same SaysLike said (origins_said t uri (h.1)) said2 (origins_said t2 uri (g.1)) (h.3)
         (g.3) (same-origins t t2 (h.1) (g.1)
         (one-roa (h.0) (g.0) (h.1) (g.1) (h.2.0) (g.2.0)).1)
-    roa-tells (inl h) (inr g) =
-        absurd (roa-not-refused (h.0) (h.1) (h.2) (g.0) (roa-by (g.0) (g.1)))
-    roa-tells (inr h) (inl g) =
-        absurd (roa-not-refused (g.0) (g.1) (g.2) (h.0) (roa-by (h.0) (h.1)))
+    roa-tells (inl h) (inr g) = absurd (roa-not-refused (h.0) (h.1) (h.2) (g.0) (g.1))
+    roa-tells (inr h) (inl g) = absurd (roa-not-refused (g.0) (g.1) (g.2) (h.0) (h.1))
     roa-tells (inr h) (inr g) = alike-refused uri under under (h.0) (g.0) said said2 (h.2) (g.2)
         (one-why-roa (h.0) (g.0) (roa-by (h.0) (h.1)) (roa-by (g.0) (g.1)))
-
-    aspa-not-refused : (cert : Certificate) (aspa : Aspa) → HasAspa s ca list octets cert aspa
-        → (cause : Cause) → IsAspaBy cause → ⊥
-    aspa-not-refused cert aspa h cause r = content-stays s aspa_kind (AspaForm s.providers) ca list
-        octets aspa-sound cert aspa h (r.0) (r.2) (r.3)
 
     aspa-tells : AspaTells s ca list until under uri octets said
         → AspaTells s ca list until2 under uri octets said2 → AllZip SaysLike said said2
@@ -213,18 +220,12 @@ module _ (s : Setting) (ca : Validated) (list : RevocationList) (octets : List �
         (h.3) (g.3) (same-providers t t2 (h.1) (g.1)
         (one-content s aspa_kind (AspaForm s.providers) ca list octets (h.0) (g.0) (h.1) (g.1)
         (h.2) (g.2)).1)
-    aspa-tells (inl h) (inr g) =
-        absurd (aspa-not-refused (h.0) (h.1) (h.2) (g.0) (aspa-by (g.0) (g.1)))
-    aspa-tells (inr h) (inl g) =
-        absurd (aspa-not-refused (g.0) (g.1) (g.2) (h.0) (aspa-by (h.0) (h.1)))
+    aspa-tells (inl h) (inr g) = absurd (aspa-not-refused (h.0) (h.1) (h.2) (g.0) (g.1))
+    aspa-tells (inr h) (inl g) = absurd (aspa-not-refused (g.0) (g.1) (g.2) (h.0) (h.1))
     aspa-tells (inr h) (inr g) = alike-refused uri under under (h.0) (g.0) said said2 (h.2) (g.2)
         (one-why-aspa (h.0) (g.0) (aspa-by (h.0) (h.1)) (aspa-by (g.0) (g.1)))
 
     module _ (children children2 : List Place) where
-      ca-not-refused : (v : Validated) → HasCa s ca list octets v → (cause : Cause) → IsCaBy cause
-          → ⊥
-      ca-not-refused v h cause r = has-no-ca s ca list octets (r.0) (r.2) (r.3) v h
-
       ca-tells : CaTells s ca list until under uri octets said children
           → CaTells s ca list until2 under uri octets said2 children2
           → TellAlike said said2 children children2
@@ -239,14 +240,12 @@ module _ (s : Setting) (ca : Validated) (list : RevocationList) (octets : List �
             ),
       )
       ca-tells (inl h) (inr (inl g)) = absurd (g.0 (h.0) (h.1))
-      ca-tells (inl h) (inr (inr g)) =
-          absurd (ca-not-refused (h.0) (h.1) (g.0) (ca-by (g.0) (g.1)))
+      ca-tells (inl h) (inr (inr g)) = absurd (ca-not-refused (h.0) (h.1) (g.0) (g.1))
       ca-tells (inr (inl h)) (inl g) = absurd (h.0 (g.0) (g.1))
       ca-tells (inr (inl h)) (inr (inl g)) =
           (alike-nothing said said2 (h.2) (g.2), no-children children children2 (h.3) (g.3))
       ca-tells (inr (inl h)) (inr (inr g)) = absurd ((ca-by (g.0) (g.1)).4 (h.1))
-      ca-tells (inr (inr h)) (inl g) =
-          absurd (ca-not-refused (g.0) (g.1) (h.0) (ca-by (h.0) (h.1)))
+      ca-tells (inr (inr h)) (inl g) = absurd (ca-not-refused (g.0) (g.1) (h.0) (h.1))
       ca-tells (inr (inr h)) (inr (inl g)) = absurd ((ca-by (h.0) (h.1)).4 (g.1))
       ca-tells (inr (inr h)) (inr (inr g)) = (
         alike-refused uri under under (h.0) (g.0) said said2 (h.2) (g.2)

@@ -1,6 +1,6 @@
 -- What is published below a certification authority (CA), file by file: payloads, and the CAs that
 -- lead to them. The sections are those of RFC 9286, where no other RFC is named.
-use Rattle.std.specs.Prelude.{◌≡◌, ◌⊎◌, ℕ, List, All, Contains, map}
+use Rattle.std.specs.Prelude.{◌≡◌, ◌⊎◌, ℕ, List, Some, All, Contains, map}
 use Rattle.rpki_basics.specs.Moment.{Moment}
 use Rattle.rpki_certs.specs.Cert.{Certificate}
 use Rattle.rpki_certs.specs.Validate.{Validated}
@@ -8,12 +8,17 @@ use Rattle.rpki_files.specs.Manifest.Uris.{uris_of}
 use Rattle.rpki_routes.specs.Aspa.{Aspa}
 use Rattle.rpki_routes.specs.Roa.{Roa, addresses, origin_of}
 use Rattle.rpki_routes.specs.declared.roa.address.RouteOrigin.{RouteOrigin}
+use Rattle.rpki_tal.specs.Tal.{Locator}
 use Rattle.rpki_relying_party.specs.Kind.{kind_of}
-use Rattle.rpki_relying_party.specs.Paths.{Leads}
-use Rattle.rpki_relying_party.specs.Payload.{origin_key}
+use Rattle.rpki_relying_party.specs.Paths.{Leads, Passes}
+use Rattle.rpki_relying_party.specs.Payload.{held_in, origin_key}
+use Rattle.rpki_relying_party.specs.Place.{key_of}
 use Rattle.rpki_relying_party.specs.Point.{Point, IsPointIn, Has, PublishesIn, NamesManifest}
+use Rattle.rpki_relying_party.specs.Runs.{IsStartOf}
 use Rattle.rpki_relying_party.specs.Setting.{Setting}
 use Rattle.rpki_relying_party.specs.Tells.{HasRoa, HasAspa, HasCa, child_of, earlier, until_of}
+use Rattle.rpki_relying_party.specs.Walk.{Left, places_left}
+use Rattle.rpki_relying_party.specs.declared.found.Found.{Found}
 use Rattle.rpki_relying_party.specs.declared.kind.ListedKind.{ListedKind}
 use Rattle.rpki_relying_party.specs.declared.kind.ListedKind.TheVariants as kinds
 use Rattle.rpki_relying_party.specs.declared.payload.Held.{Held}
@@ -109,6 +114,22 @@ abbrev pub IsPayloadBelow : Setting → Place → Payload → Held → Type 0
 IsPayloadBelow s start x h =
     (path : List Place) × (place : Place) × Leads (PublishesCa s) start path place
     × PublishesPayload s place x h
+
+-- ---- what a run finds of it
+
+-- The payload is among what was found, whatever its hold is.
+abbrev pub HoldsPayload : Found → Payload → Type 0
+HoldsPayload found x = (h : Held) × (held_in found.payloads x ≡ Some h)
+
+-- Each payload that is published below a trust anchor of the locator is held: each to which a chain
+-- of CAs leads from it, of any length, though perhaps not for as long, unless some place on the
+-- chain has the key of one that was left unread.
+abbrev pub FindsPublished : Setting → Locator → Found → List (Left Place) → Type 0
+FindsPublished s tal found unread =
+    (start place : Place) (path : List Place) (x : Payload) (h : Held)
+    → IsStartOf s tal start → Leads (PublishesCa s) start path place
+    → PublishesPayload s place x h
+    → HoldsPayload found x ⊎ Passes key_of (places_left unread) start path
 
 -- ---- moments
 

@@ -1,20 +1,25 @@
 //! What the definitions say: laws, as functions that do nothing.
 
-ghost use Rattle.std.specs.Prelude.{◌≤◌, List};
+ghost use Rattle.std.specs.Prelude.{◌≡◌, ◌<◌, ◌≤◌, ℕ, List, Contains};
 ghost use Rattle.std.specs.List.{AllZip};
 ghost use Rattle.rpki_basics.specs.Moment.{Moment, stamp};
 ghost use Rattle.rpki_certs.specs.Validate.{Validated};
 ghost use Rattle.rpki_tal.specs.Tal.{Locator};
 ghost use Rattle.rpki_relying_party.specs.Anchors.{IsAnchorOf};
+ghost use Rattle.rpki_relying_party.specs.Costs.{PlaceCosts, PlaceExceeds};
 ghost use Rattle.rpki_relying_party.specs.Found.{SaysLike};
 ghost use Rattle.rpki_relying_party.specs.Passes.{setting};
 ghost use Rattle.rpki_relying_party.specs.Paths.{IsSaid, TellsOne};
 ghost use Rattle.rpki_relying_party.specs.Place.{AreAlike, key_of};
-ghost use Rattle.rpki_relying_party.specs.Published.{IsPayloadBelow, at_moment};
+ghost use Rattle.rpki_relying_party.specs.Published.{IsPayloadBelow, PublishesPayload, PublishesCa};
+ghost use Rattle.rpki_relying_party.specs.Published.{FindsPublished, at_moment};
+ghost use Rattle.rpki_relying_party.specs.Runs.{IsRunUnder};
 ghost use Rattle.rpki_relying_party.specs.Same.{FindsOne};
 ghost use Rattle.rpki_relying_party.specs.Tells.{PlaceTells};
+ghost use Rattle.rpki_relying_party.specs.Walk.{Left};
 ghost use Rattle.rpki_relying_party.specs.declared.found.Finding.{Finding};
 ghost use Rattle.rpki_relying_party.specs.declared.found.Finding.TheVariants as findings;
+ghost use Rattle.rpki_relying_party.specs.declared.found.Found.{Found};
 ghost use Rattle.rpki_relying_party.specs.declared.payload.Held.{Held};
 ghost use Rattle.rpki_relying_party.specs.declared.payload.Payload.{Payload};
 ghost use Rattle.rpki_relying_party.specs.declared.place.Place.{Place};
@@ -49,6 +54,53 @@ pub fn payloads_are_said<R: Repository, C: Crypto>(_pass: &Pass<'_, R, C>)
         → IsSaid (PlaceTells (setting R.finds C.digest_of C.is_signed _pass.now)) start
         (findings.Payload x h)
         → IsPayloadBelow (setting R.finds C.digest_of C.is_signed _pass.now) start x h }
+{}
+
+/// Where the copy finds one thing for each URI, a place that is read tells all that it publishes:
+/// each payload of a good and unrevoked ROA or ASPA that the manifest of its publication point lists,
+/// if the point is all there (RFC 9286, section 6), and each CA whose certificate is such. With each
+/// payload it tells until when it holds.
+pub fn publications_are_told<R: Repository, C: Crypto>(pass: &Pass<'_, R, C>)
+    ensures payloads { FindsOne (setting R.finds C.digest_of C.is_signed pass.now)
+        → (place : Place) (said : List Finding) (children : List Place)
+        → PlaceTells (setting R.finds C.digest_of C.is_signed pass.now) place said children
+        → (x : Payload) (h : Held)
+        → PublishesPayload (setting R.finds C.digest_of C.is_signed pass.now) place x h
+        → Contains said (findings.Payload x h) }
+    ensures cas { FindsOne (setting R.finds C.digest_of C.is_signed pass.now)
+        → (place : Place) (said : List Finding) (children : List Place)
+        → PlaceTells (setting R.finds C.digest_of C.is_signed pass.now) place said children
+        → (child : Place)
+        → PublishesCa (setting R.finds C.digest_of C.is_signed pass.now) place child
+        → Contains children child }
+{}
+
+/// A run under a locator over such a copy has found each payload that is published below a trust
+/// anchor of the locator: each to which a chain of CAs leads from it, of any length, though perhaps
+/// not for as long, unless some place on the chain has the key of one that the run left unread.
+///
+/// With `payloads_are_said` and the clause `sound` of `run_under`, a run finds a payload exactly
+/// where it is published, up to what was left unread.
+pub fn publications_are_found<R: Repository, C: Crypto>(_pass: &Pass<'_, R, C>)
+    ensures { FindsOne (setting R.finds C.digest_of C.is_signed _pass.now)
+        → (tal : Locator) (limit : ℕ) (old new : Found) (unread : List (Left Place))
+        → IsRunUnder (setting R.finds C.digest_of C.is_signed _pass.now) tal limit old new unread
+        → FindsPublished (setting R.finds C.digest_of C.is_signed _pass.now) tal new unread }
+{}
+
+/// How much work it is to read a place is one number, over such a copy: what reading it costs, and
+/// more than each number that it exceeds. So a try with as much room is never cut.
+pub fn work_is_one_number<R: Repository, C: Crypto>(pass: &Pass<'_, R, C>)
+    ensures costs { FindsOne (setting R.finds C.digest_of C.is_signed pass.now)
+        → (place : Place) (m n : ℕ)
+        → PlaceCosts (setting R.finds C.digest_of C.is_signed pass.now) place m
+        → PlaceCosts (setting R.finds C.digest_of C.is_signed pass.now) place n
+        → m ≡ n }
+    ensures exceeds { FindsOne (setting R.finds C.digest_of C.is_signed pass.now)
+        → (place : Place) (m n : ℕ)
+        → PlaceExceeds (setting R.finds C.digest_of C.is_signed pass.now) place m
+        → PlaceCosts (setting R.finds C.digest_of C.is_signed pass.now) place n
+        → m < n }
 {}
 
 /// A payload that is published below the start is published there at each moment from now until its
