@@ -1,8 +1,8 @@
 -- The payloads that were found, as they are printed.
-use denote.Ref.{Bor}
 use Rattle.std.specs.Prelude.{ℕ, List, [], ◌∷◌, ◌==◌, Option, None, Some, if◌then◌else◌, map, min}
 use Rattle.std.specs.List.{flat_map}
 use Rattle.std.specs.Map.Iter.{deref_pair}
+use denote.Ref.{Bor}
 use Rattle.rpki_basics.specs.Moment.{Moment}
 use Rattle.rpki_relying_party.specs.declared.payload.Held.{Held}
 use Rattle.rpki_relying_party.specs.declared.payload.Origin.{Origin}
