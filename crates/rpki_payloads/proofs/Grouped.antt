@@ -135,6 +135,12 @@ pub others-end : (e : Provider × Held) (es : List (Provider × Held)) (customer
 others-end e es customer end ne =
     ap (earlier_end customer end) (first-of e es) ∙ if-other e.0.customer customer _ _ ne
 
+same-parts : {m n : ℕ} {ms ns : List ℕ} {x y : ℕ} {cs ds : List Customer} → m ≡ n → ms ≡ ns
+    → x ≡ y → cs ≡ ds
+    → record { number = m; providers = ms; expires = x } ∷ cs
+    ≡ record { number = n; providers = ns; expires = y } ∷ ds
+same-parts a b c d = (cc)
+
 -- the first of all customers, and the others
 pub next-of : (all : List Customer) (first : Option (Bor Provider × Bor Held))
     (further copied : List (Provider × Held)) (p : Bor Provider × Bor Held) (number expires : ℕ)
@@ -162,27 +168,7 @@ next-of all first further copied p number expires rest a s k n x r =
     ∙ ap (λ es. providers_of customer (and_further first es)) (sym k) in
     let end : earlier_end customer (end_of e) (customers_of further) ≡ expires =
     sym (ap first_end (whole ∙ first-of e further)) ∙ sym x in
-    whole ∙ first-of e further
-    ∙ ap (λ m. record {
-      number = m;
-      providers = e.0.provider ∷ providers_of customer further;
-      expires = earlier_end customer (end_of e) (customers_of further);
-    } ∷ customers_after customer (customers_of further)) (sym n)
-    ∙ ap (λ ns. record {
-      number = number;
-      providers = ns;
-      expires = earlier_end customer (end_of e) (customers_of further);
-    } ∷ customers_after customer (customers_of further)) providers
-    ∙ ap (λ m. record {
-      number = number;
-      providers = providers_of customer (and_further first copied);
-      expires = m;
-    } ∷ customers_after customer (customers_of further)) end
-    ∙ ap (λ cs. record {
-      number = number;
-      providers = providers_of customer (and_further first copied);
-      expires = expires;
-    } ∷ cs) after
+    whole ∙ first-of e further ∙ same-parts (sym n) providers end after
 
 -- the providers of a customer were passed, and another provider stands first, or none is left: the
 -- other customers are to come, and the end is that of the customer
@@ -197,11 +183,12 @@ pub passed-to : (customer end : ℕ) (all rest : List Customer)
     → (rest ≡ customers_after customer all) × (end ≡ first_end all)
 passed-to customer end all rest first further p r s ne held ends =
     let taken : and_further first further ≡ deref_pair p ∷ further =
-    ap (λ (o : Option (Bor Provider × Bor Held)). and_further o further) s in
-    (r ∙ ap customers_of taken ∙ sym (others (deref_pair p) further customer ne)
-    ∙ sym (ap (λ es. customers_after customer (customers_of es)) taken) ∙ held,
-    sym (others-end (deref_pair p) further customer end ne)
-    ∙ sym (ap (λ es. earlier_end customer end (customers_of es)) taken) ∙ ends)
+    ap (λ (o : Option (Bor Provider × Bor Held)). and_further o further) s in (
+      r ∙ ap customers_of taken ∙ sym (others (deref_pair p) further customer ne)
+          ∙ sym (ap (λ es. customers_after customer (customers_of es)) taken) ∙ held,
+      sym (others-end (deref_pair p) further customer end ne)
+          ∙ sym (ap (λ es. earlier_end customer end (customers_of es)) taken) ∙ ends,
+    )
 
 pub passed-all : (customer end : ℕ) (all rest : List Customer)
     (first : Option (Bor Provider × Bor Held)) (further : List (Provider × Held))
@@ -212,7 +199,8 @@ pub passed-all : (customer end : ℕ) (all rest : List Customer)
     → (rest ≡ customers_after customer all) × (end ≡ first_end all)
 passed-all customer end all rest first further r s held ends =
     let taken : and_further first further ≡ [] =
-    ap (λ (o : Option (Bor Provider × Bor Held)). and_further o further) s in
-    (r ∙ ap customers_of taken
-    ∙ sym (ap (λ es. customers_after customer (customers_of es)) taken) ∙ held,
-    sym (ap (λ es. earlier_end customer end (customers_of es)) taken) ∙ ends)
+    ap (λ (o : Option (Bor Provider × Bor Held)). and_further o further) s in (
+      r ∙ ap customers_of taken
+          ∙ sym (ap (λ es. customers_after customer (customers_of es)) taken) ∙ held,
+      sym (ap (λ es. earlier_end customer end (customers_of es)) taken) ∙ ends,
+    )

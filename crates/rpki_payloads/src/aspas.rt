@@ -43,9 +43,8 @@ impl<'a> Iterator for Providers<'a> {
         if first.customer != self.customer {
             return None;
         }
-        let provider = first.provider;
         self.first = self.further.next();
-        Some(Asn::from_u32(provider))
+        Some(Asn::from_u32(first.provider))
     }
 }
 
@@ -77,9 +76,9 @@ impl<'a> Model for Aspa<'a> {
     ghost Value = { Customer };
 
     ghost view = { λ c. record {
-        number = c.customer;
-        providers = c.providers;
-        expires = c.expires;
+      number = c.customer;
+      providers = c.providers;
+      expires = c.expires;
     } };
 }
 
