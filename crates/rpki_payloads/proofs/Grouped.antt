@@ -7,7 +7,7 @@ use Rattle.std.proofs.lemmas.Bool.Decides.{nat_tests}
 use denote.Ref.{Bor}
 use Rattle.rpki_relying_party.specs.declared.payload.Held.{Held}
 use Rattle.rpki_relying_party.specs.declared.payload.Provider.{Provider}
-use Rattle.rpki_payloads.specs.Payloads.{Customer, only_provider, with_provider, put_provider}
+use Rattle.rpki_payloads.specs.Payloads.{Customer, put_provider}
 use Rattle.rpki_payloads.specs.Payloads.{customers_of, providers_of, and_further}
 use Rattle.rpki_payloads.specs.Seconds.{seconds_since}
 
