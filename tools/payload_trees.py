@@ -44,8 +44,8 @@ def origin(number, prefix, most=None, until=NEXT):
     return "origin", number, prefix, most, until
 
 
-def aspa(customer, *providers):
-    return "aspa", customer, providers
+def aspa(customer, *providers, until=NEXT):
+    return "aspa", customer, providers, until
 
 
 # What the CAs say.
@@ -286,10 +286,11 @@ def two_parents_that_trim(t):
 
 
 def joined(t):
-    """What several objects say is said once, until the last moment at which one of them does."""
-    t.a.add_aspa("p.asa", 65001, [65010, 65012])
+    """What several objects say is said once, until the last moment at which one of them does. All
+    providers of a customer hold until the first of their ends."""
+    t.a.add_aspa("p.asa", 65001, [65010, 65012], last="20300101000000Z")
     t.a.add_roa("early.roa", 65001, ["10.1.0.0/16-24", "10.1.0.0/16-20"], last="20290101000000Z")
-    t.says([aspa(65001, 65010, 65011, 65012), *ORIGINS, *C, *B,
+    t.says([*PROVIDERS, aspa(65001, 65010, 65012, until="20300101000000Z"), *ORIGINS, *C, *B,
             origin(65001, "10.1.0.0/16", 20, "20290101000000Z")])
 
 

@@ -110,7 +110,7 @@ JSON = """{
     { "asn": "AS64496", "prefix": "2001:db8::/32", "maxLength": 48, "ta": "anchor", "expires": 2082758400 }
   ],
   "aspas": [
-    { "customer": "AS64496", "providers": ["AS64497", "AS64511"], "ta": "anchor" }
+    { "customer": "AS64496", "providers": ["AS64497", "AS64511"], "ta": "anchor", "expires": 2082758400 }
   ]
 }
 """

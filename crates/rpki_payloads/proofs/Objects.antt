@@ -1,26 +1,34 @@
 -- The text is JSON, and says the payloads.
-use Rattle.std.proofs.Common.{◌≡◌, ℕ, ◌<◌, ◌^◌, List, [], ◌++◌, All, codes, decimal, refl, sym, ap}
+use Rattle.std.proofs.Common.{◌≡◌, ℕ, ◌<◌, ◌^◌, ◌==◌, Bool, true, false, List, [], ◌∷◌, ◌++◌, All}
+use Rattle.std.proofs.Common.{if◌then◌else◌, codes, decimal, refl, sym, ap}
 use Rattle.std.proofs.Common.{◌∙◌, arith, append_assoc, append-nil, subst, IsUtf8, String}
 use Rattle.std.proofs.Common.{string_bytes, Global}
+use Rattle.std.proofs.Math.Nat.{min-le_left}
+use Rattle.std.proofs.lemmas.List.Elements.{All-nil, All-cons, All-append, All-head, All-tail}
+use Rattle.std.proofs.lemmas.List.Elements.{All-map}
 use Rattle.std.proofs.lemmas.Str.{IsUtf8-string_bytes}
 use Rattle.rpki_basics.specs.Moment.{Moment, IsMoment}
 use Rattle.rpki_basics.specs.Time.Form.{iso_text}
-use Rattle.rpki_json.specs.Grammar.{string, number, array, object, Items, member}
-use Rattle.rpki_json.specs.Grammar.{no_members, IsMark, IsValue, AreItems}
+use Rattle.rpki_json.specs.Grammar.{string, number, array, object, Items, Members, member}
+use Rattle.rpki_json.specs.Grammar.{no_members, IsMark, IsValue, AreItems, AreFurtherMembers}
 use Rattle.rpki_json.specs.Grammar.{IsText, items_of}
 use Rattle.rpki_json.specs.Separated.{separated}
 use Rattle.rpki_json.specs.Text.{json_string}
 use Rattle.rpki_json.proofs.Strings.{is-quoted}
 use Rattle.rpki_json.proofs.Values.{is-number}
 use Rattle.rpki_resources.specs.As.{asn_text}
+use Rattle.rpki_relying_party.specs.declared.payload.Held.{Held}
+use Rattle.rpki_relying_party.specs.declared.payload.Provider.{Provider}
 use Rattle.rpki_payloads.specs.Found.{FoundUnder}
 use Rattle.rpki_payloads.specs.Payloads.{NamedOrigin, origins_among}
-use Rattle.rpki_payloads.specs.Payloads.{NamedCustomer, customers_among}
+use Rattle.rpki_payloads.specs.Payloads.{Customer, only_provider, with_provider, put_provider}
+use Rattle.rpki_payloads.specs.Payloads.{customers_of, NamedCustomer, named_customer}
+use Rattle.rpki_payloads.specs.Payloads.{customers_under, customers_among}
 use Rattle.rpki_payloads.specs.Said.{metadata_value, roa_value, provider_value, aspa_value}
-use Rattle.rpki_payloads.specs.Said.{json_value, HasNumbers, HaveNumbers}
+use Rattle.rpki_payloads.specs.Said.{json_value, HasNumbers, HasMoment, HaveNumbers}
 use Rattle.rpki_payloads.specs.Seconds.{seconds_since}
 use Rattle.rpki_payloads.specs.Texts.Json.{json_generated, json_times, json_origin, json_expires}
-use Rattle.rpki_payloads.specs.Texts.Json.{json_roa, json_customer, json_provider, json_ta}
+use Rattle.rpki_payloads.specs.Texts.Json.{json_roa, json_customer, json_provider}
 use Rattle.rpki_payloads.specs.Texts.Json.{json_aspa, json_roas, json_aspas, json_text}
 use Rattle.rpki_payloads.specs.Texts.Origin.{prefix_of}
 use Rattle.rpki_payloads.proofs.Plain.{plain-by, plain-asn, plain-prefix, plain-moment}
@@ -161,17 +169,44 @@ metadata-is m i =
           no_members comma-deeper (plain-by (codes "buildtime") refl) time-is refl));
     }
 
--- ---- origins
+-- ---- the last members of origins and customers
 
-module _ (asn prefix length name expires : List ℕ) where
+module _ (name expires : List ℕ) where
   abbrev expires-octets : List ℕ
   expires-octets = codes ", " ++ (written (codes "expires") expires ++ [])
 
   abbrev ta-octets : List ℕ
   ta-octets = codes ", " ++ (written (codes "ta") name ++ expires-octets)
 
+  -- what is written of them, from one part to the next
+  abbrev last-row : List ℕ
+  last-row = codes ", \"ta\": " ++ (name ++ (codes ", \"expires\": " ++ (expires ++ codes " }")))
+
+  last-same : last-row ≡ ta-octets ++ codes " }"
+  last-same =
+      ap (λ z. codes ", \"ta\": " ++ z)
+      (sym (append_assoc name expires-octets (codes " }")
+      ∙ ap (λ z. name ++ (codes ", \"expires\": " ++ (z ++ codes " }"))) (append-nil expires)))
+
+abbrev last-members : List ℕ → ℕ → Members
+last-members name expires =
+    member (codes "ta") (string name) (member (codes "expires") (number expires) no_members)
+
+last-are : (name : List ℕ) (expires : ℕ) → expires < 2 ^ 64
+    → AreFurtherMembers (last-members name expires) (ta-octets (json_string name) (decimal expires))
+last-are name expires small =
+    further-members (codes ", ") (codes "ta") (json_string name)
+    (expires-octets (json_string name) (decimal expires)) (string name)
+    (member (codes "expires") (number expires) no_members) comma-space
+    (plain-by (codes "ta") refl) (is-quoted name)
+    (further-members (codes ", ") (codes "expires") (decimal expires) [] (number expires)
+    no_members comma-space (plain-by (codes "expires") refl) (is-number expires small) refl)
+
+-- ---- origins
+
+module _ (asn prefix length name expires : List ℕ) where
   abbrev length-octets : List ℕ
-  length-octets = codes ", " ++ (written (codes "maxLength") length ++ ta-octets)
+  length-octets = codes ", " ++ (written (codes "maxLength") length ++ ta-octets name expires)
 
   abbrev prefix-octets : List ℕ
   prefix-octets = codes ", " ++ (written (codes "prefix") (quoted prefix) ++ length-octets)
@@ -185,37 +220,27 @@ module _ (asn prefix length name expires : List ℕ) where
   roa-row rest = codes "\n    { \"asn\": \"" ++ (asn ++ (codes "\", \"prefix\": \"" ++ (prefix
       ++ (codes "\", \"maxLength\": " ++ (length ++ rest)))))
 
-  -- its last members
-  abbrev last-row : List ℕ
-  last-row = codes ", \"ta\": " ++ (name ++ (codes ", \"expires\": " ++ (expires ++ codes " }")))
-
   roa-left : (codes "\n    { \"asn\": \"" ++ (asn ++ (codes "\", \"prefix\": \"" ++ (prefix
-      ++ (codes "\", \"maxLength\": " ++ length))))) ++ last-row ≡ roa-row last-row
+      ++ (codes "\", \"maxLength\": " ++ length))))) ++ last-row name expires ≡ roa-row (last-row name expires)
   roa-left =
       ap (λ z. codes "\n    { \"asn\": \"" ++ z)
       (append_assoc asn (codes "\", \"prefix\": \"" ++ (prefix
-      ++ (codes "\", \"maxLength\": " ++ length))) last-row
+      ++ (codes "\", \"maxLength\": " ++ length))) (last-row name expires)
       ∙ ap (λ z. asn ++ (codes "\", \"prefix\": \"" ++ z))
-      (append_assoc prefix (codes "\", \"maxLength\": " ++ length) last-row))
+      (append_assoc prefix (codes "\", \"maxLength\": " ++ length) (last-row name expires)))
 
-  last-same : last-row ≡ ta-octets ++ codes " }"
-  last-same =
-      ap (λ z. codes ", \"ta\": " ++ z)
-      (sym (append_assoc name expires-octets (codes " }")
-      ∙ ap (λ z. name ++ (codes ", \"expires\": " ++ (z ++ codes " }"))) (append-nil expires)))
-
-  roa-right : roa-octets ≡ roa-row (ta-octets ++ codes " }")
+  roa-right : roa-octets ≡ roa-row (ta-octets name expires ++ codes " }")
   roa-right =
       ap (λ z. codes "\n    { \"asn\": \"" ++ z)
       (step asn (codes "\"") prefix-octets (codes " }")
       ∙ ap (λ z. asn ++ (codes "\", \"prefix\": \"" ++ z))
       (step prefix (codes "\"") length-octets (codes " }")
       ∙ ap (λ z. prefix ++ (codes "\", \"maxLength\": " ++ z))
-      (append_assoc length ta-octets (codes " }"))))
+      (append_assoc length (ta-octets name expires) (codes " }"))))
 
   roa-parts : (codes "\n    { \"asn\": \"" ++ (asn ++ (codes "\", \"prefix\": \"" ++ (prefix
-      ++ (codes "\", \"maxLength\": " ++ length))))) ++ last-row ≡ roa-octets
-  roa-parts = roa-left ∙ ap roa-row last-same ∙ sym roa-right
+      ++ (codes "\", \"maxLength\": " ++ length))))) ++ last-row name expires ≡ roa-octets
+  roa-parts = roa-left ∙ ap roa-row (last-same name expires) ∙ sym roa-right
 
 roa-is : (o : NamedOrigin) → HasNumbers o → IsValue (roa_value o) (json_roa o)
 unfolding json_origin json_expires
@@ -226,9 +251,8 @@ roa-is o h =
     let name = json_string o.name in
     let expires = decimal (seconds_since o.until) in
     let small : o.origin.max_len < 2 ^ 64 = omega (arith, h.length) in
-    let last = member (codes "expires") (number (seconds_since o.until)) no_members in
-    let ta = member (codes "ta") (string o.name) last in
-    let lengths = member (codes "maxLength") (number o.origin.max_len) ta in
+    let last = last-members o.name (seconds_since o.until) in
+    let lengths = member (codes "maxLength") (number o.origin.max_len) last in
     record {
       first = codes "\n    { ";
       inside = written (codes "asn") (quoted asn) ++ prefix-octets asn prefix length name expires;
@@ -244,14 +268,9 @@ roa-is o h =
           comma-space (plain-by (codes "prefix") refl)
           (plain-string prefix (plain-prefix o.origin))
           (further-members (codes ", ") (codes "maxLength") length
-          (ta-octets asn prefix length name expires) (number o.origin.max_len) ta comma-space
+          (ta-octets name expires) (number o.origin.max_len) last comma-space
           (plain-by (codes "maxLength") refl) (is-number o.origin.max_len small)
-          (further-members (codes ", ") (codes "ta") name
-          (expires-octets asn prefix length name expires) (string o.name) last comma-space
-          (plain-by (codes "ta") refl) (is-quoted o.name)
-          (further-members (codes ", ") (codes "expires") expires []
-          (number (seconds_since o.until)) no_members comma-space (plain-by (codes "expires") refl)
-          (is-number (seconds_since o.until) (seconds-small o.until h.moment)) refl))));
+          (last-are o.name (seconds_since o.until) (seconds-small o.until h.moment))));
     }
 
 -- ---- customers
@@ -262,45 +281,98 @@ providers-are ns =
     are-items (codes ", ") comma-space provider_value json_provider (λ _. Unit {0})
     (λ n _. asn-is n) ns (λ _ _ _. tt)
 
-module _ (asn list name : List ℕ) where
-  abbrev last-octets : List ℕ
-  last-octets = codes ", " ++ (written (codes "ta") name ++ [])
-
+module _ (asn list name expires : List ℕ) where
   abbrev list-octets : List ℕ
   list-octets = codes ", "
-      ++ (written (codes "providers") (codes "[" ++ (list ++ codes "]")) ++ last-octets)
+      ++ (written (codes "providers") (codes "[" ++ (list ++ codes "]")) ++ ta-octets name expires)
 
   abbrev aspa-octets : List ℕ
   aspa-octets = codes "\n    { "
       ++ ((written (codes "customer") (quoted asn) ++ list-octets) ++ codes " }")
 
-  aspa-parts : (codes "\n    { \"customer\": \"" ++ (asn ++ codes "\", \"providers\": ["))
-      ++ (list ++ (codes "], \"ta\": " ++ (name ++ codes " }"))) ≡ aspa-octets
-  aspa-parts = simp (append_assoc, append-nil)
+  -- what is written of a customer, from one part to the next
+  abbrev aspa-row : List ℕ → List ℕ
+  aspa-row rest = codes "\n    { \"customer\": \"" ++ (asn ++ (codes "\", \"providers\": [" ++ (list
+      ++ (codes "]" ++ rest))))
 
-aspa-is : (c : NamedCustomer) → Unit {0} → IsValue (aspa_value c) (json_aspa c)
-unfolding json_customer json_ta
-aspa-is c _ =
+  aspa-right : aspa-octets ≡ aspa-row (ta-octets name expires ++ codes " }")
+  aspa-right =
+      ap (λ z. codes "\n    { \"customer\": \"" ++ z)
+      (step asn (codes "\"") list-octets (codes " }")
+      ∙ ap (λ z. asn ++ (codes "\", \"providers\": [" ++ z))
+      (step list (codes "]") (ta-octets name expires) (codes " }")))
+
+  aspa-parts : (codes "\n    { \"customer\": \"" ++ (asn ++ codes "\", \"providers\": ["))
+      ++ (list ++ (codes "]" ++ last-row name expires)) ≡ aspa-octets
+  aspa-parts =
+      ap (λ z. codes "\n    { \"customer\": \"" ++ z)
+      (append_assoc asn (codes "\", \"providers\": [")
+      (list ++ (codes "]" ++ last-row name expires)))
+      ∙ ap aspa-row (last-same name expires) ∙ sym aspa-right
+
+-- the end of a customer is a number of 64 bits
+abbrev HasEnd : Customer → Type 0
+HasEnd c = c.expires < 2 ^ 64
+
+end-put : (same : Bool) (e : Provider × Held) (c : Customer) (cs : List Customer)
+    → seconds_since e.1.until < 2 ^ 64 → All HasEnd (c ∷ cs)
+    → All HasEnd (if same then with_provider e c ∷ cs else only_provider e ∷ c ∷ cs)
+end-put true e c cs s h =
+    let least = min-le_left (seconds_since e.1.until) c.expires in
+    All-cons HasEnd (with_provider e c) cs (omega arith) (All-tail HasEnd c cs h)
+end-put false e c cs s h = All-cons HasEnd (only_provider e) (c ∷ cs) s h
+
+ends-put : (e : Provider × Held) (cs : List Customer) → seconds_since e.1.until < 2 ^ 64
+    → All HasEnd cs → All HasEnd (put_provider e cs)
+ends-put e [] s h = All-cons HasEnd (only_provider e) [] s h
+ends-put e (c ∷ cs) s h = end-put (c.number == e.0.customer) e c cs s h
+
+have-ends : (es : List (Provider × Held)) → All HasMoment es → All HasEnd (customers_of es)
+have-ends [] h = All-nil HasEnd
+have-ends (e ∷ es) h =
+    ends-put e (customers_of es) (seconds-small e.1.until (All-head HasMoment e es h))
+    (have-ends es (All-tail HasMoment e es h))
+
+abbrev HasNamedEnd : NamedCustomer → Type 0
+HasNamedEnd c = HasEnd c.customer
+
+-- the moments of providers under one name are real
+abbrev HaveMoments : FoundUnder → Type 0
+HaveMoments f = All HasMoment f.found.payloads.providers.entries
+
+ends-among : (found : List FoundUnder) → All HaveMoments found
+    → All HasNamedEnd (customers_among found)
+ends-among [] h = All-nil HasNamedEnd
+ends-among (f ∷ fs) h =
+    let entries = f.found.payloads.providers.entries in
+    All-append HasNamedEnd (customers_under f) (customers_among fs)
+    (All-map HasNamedEnd (named_customer f.name) (customers_of entries)
+    (have-ends entries (All-head HaveMoments f fs h)))
+    (ends-among fs (All-tail HaveMoments f fs h))
+
+aspa-is : (c : NamedCustomer) → HasNamedEnd c → IsValue (aspa_value c) (json_aspa c)
+unfolding json_customer json_expires
+aspa-is c small =
     let asn = asn_text c.customer.number in
     let list = separated (codes ", ") json_provider c.customer.providers in
     let name = json_string c.name in
+    let expires = decimal c.customer.expires in
     let items = array (items_of provider_value c.customer.providers) in
-    let ta = member (codes "ta") (string c.name) no_members in
+    let last = last-members c.name c.customer.expires in
     record {
       first = codes "\n    { ";
-      inside = written (codes "customer") (quoted asn) ++ list-octets asn list name;
+      inside = written (codes "customer") (quoted asn) ++ list-octets asn list name expires;
       last = codes " }";
-      parts = aspa-parts asn list name;
+      parts = aspa-parts asn list name expires;
       opens = object-opens;
       closes = object-closes;
-      holds = members (codes "customer") (quoted asn) (list-octets asn list name) (string asn)
-          (member (codes "providers") items ta)
+      holds = members (codes "customer") (quoted asn) (list-octets asn list name expires)
+          (string asn) (member (codes "providers") items last)
           (plain-by (codes "customer") refl) (asn-is c.customer.number)
           (further-members (codes ", ") (codes "providers") (codes "[" ++ (list ++ codes "]"))
-          (last-octets asn list name) items ta comma-space (plain-by (codes "providers") refl)
+          (ta-octets name expires) items last comma-space (plain-by (codes "providers") refl)
           (array-is _ list (codes "]") array-closes (providers-are c.customer.providers))
-          (further-members (codes ", ") (codes "ta") name [] (string c.name) no_members comma-space
-          (plain-by (codes "ta") refl) (is-quoted c.name) refl));
+          (last-are c.name c.customer.expires small));
     }
 
 -- ---- the whole
@@ -365,7 +437,7 @@ module _ (seconds time roas aspas : List ℕ) where
       (step aspas (codes "\n  ]") [] (codes "\n}\n"))))))
 
 module _ (m : Moment) (os : List NamedOrigin) (cs : List NamedCustomer) (i : IsMoment m)
-    (h : All HasNumbers os) where
+    (h : All HasNumbers os) (k : All HasNamedEnd cs) where
   object-is : IsValue
       (object (member (codes "metadata") (metadata_value m)
       (member (codes "roas") (array (items_of roa_value os))
@@ -411,8 +483,7 @@ module _ (m : Moment) (os : List NamedOrigin) (cs : List NamedCustomer) (i : IsM
             (codes "[" ++ (aspas ++ codes "\n  ]")) [] (array (items_of aspa_value cs)) no_members
             comma-line (plain-by (codes "aspas") refl)
             (array-is _ aspas (codes "\n  ]") array-closes-line
-            (are-items (codes ",") comma aspa_value json_aspa (λ _. Unit {0}) aspa-is cs
-            (λ _ _ _. tt))) refl));
+            (are-items (codes ",") comma aspa_value json_aspa HasNamedEnd aspa-is cs k)) refl));
       }
 
 text-is : (m : Moment) (found : List FoundUnder) → IsMoment m → HaveNumbers found
@@ -433,7 +504,7 @@ text-is m found i h utf8 =
       parts = object-left seconds time roas aspas ∙ sym (object-right seconds time roas aspas);
       space_before = refl;
       space_after = refl;
-      is = object-is m os cs i h;
+      is = object-is m os cs i h.origins (ends-among found h.providers);
     }
 
 -- what a String has is UTF-8

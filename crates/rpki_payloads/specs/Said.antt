@@ -4,6 +4,8 @@ use Rattle.rpki_basics.specs.Moment.{Moment, IsMoment}
 use Rattle.rpki_basics.specs.Time.Form.{iso_text}
 use Rattle.rpki_json.specs.Grammar.{Json, string, number, array, object, no_members}
 use Rattle.rpki_json.specs.Grammar.{member, items_of}
+use Rattle.rpki_relying_party.specs.declared.payload.Held.{Held}
+use Rattle.rpki_relying_party.specs.declared.payload.Provider.{Provider}
 use Rattle.rpki_resources.specs.As.{asn_text}
 use Rattle.rpki_payloads.specs.Found.{FoundUnder}
 use Rattle.rpki_payloads.specs.Grammar.Csv.{Row}
@@ -61,7 +63,8 @@ abbrev pub aspa_value : NamedCustomer → Json
 aspa_value c = object (
     member (codes "customer") (string (asn_text c.customer.number)) (
     member (codes "providers") (array (items_of provider_value c.customer.providers)) (
-    member (codes "ta") (string c.name) no_members)))
+    member (codes "ta") (string c.name) (
+    member (codes "expires") (number c.customer.expires) no_members))))
 
 -- the whole object
 abbrev pub json_value : Moment → List FoundUnder → Json
@@ -76,6 +79,11 @@ pub record HasNumbers (o : NamedOrigin) : Type 0 where
   pub length : o.origin.max_len < 2 ^ 8
   pub moment : IsMoment o.until
 
--- each number of the origins that were found is one of the code
-abbrev pub HaveNumbers : List FoundUnder → Type 0
-HaveNumbers found = All HasNumbers (origins_among found)
+-- the moment until which a provider holds is real
+abbrev pub HasMoment : Provider × Held → Type 0
+HasMoment e = IsMoment e.1.until
+
+-- each number of the origins that were found is one of the code, and so is each moment of providers
+pub record HaveNumbers (found : List FoundUnder) : Type 0 where
+  pub origins : All HasNumbers (origins_among found)
+  pub providers : All (λ f. All HasMoment f.found.payloads.providers.entries) found

@@ -1,22 +1,22 @@
 //! ASPAs: customers with their providers.
 
 ghost use Rattle.std.specs.Prelude.{◌≡◌};
-ghost use Rattle.std.specs.BTreeMap.{keys};
 ghost use Rattle.rpki_payloads.specs.Payloads.{customers_of};
 
+use crate::seconds::seconds_of;
 use rpki_relying_party::{Held, Provider};
 use rpki_resources::Asn;
 use rpki_show::texts::lines::Listed;
 use std::collections::BTreeMap;
-use std::collections::btree_map::Keys;
+use std::collections::btree_map::Iter;
 use std::marker::Model;
 
 /// Goes over the providers of a customer, which stand side by side.
 #[derive(Drop)]
 pub(crate) struct Providers<'a> {
     customer: u32,
-    first: Option<Provider>,
-    further: Keys<'a, Provider, Held>,
+    first: Option<(&'a Provider, &'a Held)>,
+    further: Iter<'a, Provider, Held>,
 }
 
 impl<'a> Model for Providers<'a> {
@@ -39,11 +39,11 @@ impl<'a> Iterator for Providers<'a> {
     ghost remaining = { item_count (λ s. s) };
 
     fn next(&mut self) -> Option<Asn> {
-        let first = self.first?;
+        let (first, _) = self.first?;
         if first.customer != self.customer {
             return None;
         }
-        self.first = self.further.next().copied();
+        self.first = self.further.next();
         Some(Asn::from_u32(first.provider))
     }
 }
@@ -62,11 +62,12 @@ impl<'a> Listed for Providers<'a> {
     ghost ends = { λ s. tt };
 }
 
-/// A customer with its providers.
+/// A customer with its providers, and until when all of them hold, in seconds since 1970.
 #[derive(Drop)]
 pub(crate) struct Aspa<'a> {
     pub(crate) customer: Asn,
     pub(crate) providers: Providers<'a>,
+    pub(crate) expires: u64,
 }
 
 impl<'a> Model for Aspa<'a> {
@@ -74,14 +75,18 @@ impl<'a> Model for Aspa<'a> {
 
     ghost Value = { Customer };
 
-    ghost view = { λ c. record { number = c.customer; providers = c.providers } };
+    ghost view = { λ c. record {
+      number = c.customer;
+      providers = c.providers;
+      expires = c.expires;
+    } };
 }
 
 /// Goes over customers with their providers.
 #[derive(Drop)]
 pub(crate) struct Aspas<'a> {
-    first: Option<Provider>,
-    further: Keys<'a, Provider, Held>,
+    first: Option<(&'a Provider, &'a Held)>,
+    further: Iter<'a, Provider, Held>,
 }
 
 impl<'a> Model for Aspas<'a> {
@@ -96,10 +101,10 @@ impl<'a> Model for Aspas<'a> {
 
 /// Goes over the customers of these providers, in their order.
 pub(crate) fn aspas_of<'a>(providers: &'a BTreeMap<Provider, Held>) -> Aspas<'a>
-    ensures { result ≡ customers_of (keys providers.now) }
+    ensures { result ≡ customers_of providers.now.entries }
 {
-    let mut further = providers.keys();
-    let first = further.next().copied();
+    let mut further = providers.iter();
+    let first = further.next();
     Aspas { first, further }
 }
 
@@ -113,7 +118,8 @@ impl<'a> Iterator for Aspas<'a> {
     ghost remaining = { item_count (λ s. s) };
 
     fn next(&mut self) -> Option<Aspa<'a>> {
-        let customer = self.first?.customer;
+        let (first, held) = self.first?;
+        let customer = first.customer;
         let Ok(further) = self.further.clone() else {
             return None;
         };
@@ -122,15 +128,18 @@ impl<'a> Iterator for Aspas<'a> {
             first: self.first,
             further,
         };
-        while let Some(provider) = self.first {
+        let mut expires = seconds_of(held.until);
+        while let Some((provider, held)) = self.first {
             if provider.customer != customer {
                 break;
             }
-            self.first = self.further.next().copied();
+            expires = expires.min(seconds_of(held.until));
+            self.first = self.further.next();
         }
         Some(Aspa {
             customer: Asn::from_u32(customer),
             providers,
+            expires,
         })
     }
 }

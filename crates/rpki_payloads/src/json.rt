@@ -4,9 +4,10 @@ ghost use Rattle.std.specs.Prelude.{◌≡◌, ◌++◌, codes, string_bytes, If
 ghost use Rattle.rpki_json.specs.Separated.{separated};
 ghost use Rattle.rpki_payloads.specs.Payloads.{named_origin, origins_under, origins_among};
 ghost use Rattle.rpki_payloads.specs.Payloads.{named_customer, customers_under, customers_among};
+ghost use Rattle.rpki_payloads.specs.Seconds.{seconds_since};
 ghost use Rattle.rpki_payloads.specs.Texts.Json.{json_text, json_generated, json_times, json_roa};
 ghost use Rattle.rpki_payloads.specs.Texts.Json.{json_origin, json_expires, json_roas, json_aspa};
-ghost use Rattle.rpki_payloads.specs.Texts.Json.{json_customer, json_provider, json_ta, json_aspas};
+ghost use Rattle.rpki_payloads.specs.Texts.Json.{json_customer, json_provider, json_aspas};
 ghost use Rattle.rpki_payloads.specs.Texts.Json.{comma_after, separated_after, is_any};
 ghost use Rattle.rpki_show.specs.Grows.{Grows};
 
@@ -116,7 +117,7 @@ fn push_roa(text: &mut String, origin: &Origin, held: &Held, name: &str) -> Resu
         (json_roa (named_origin name.now (origin.now, held.now))) }
 {
     push_origin(text, origin)?;
-    push_expires(text, held, name)
+    push_expires(text, name, seconds_of(held.until))
 }
 
 /// Appends the first members of an origin.
@@ -133,13 +134,12 @@ fn push_origin(text: &mut String, origin: &Origin) -> Result<(), AllocError>
     )
 }
 
-/// Appends the last members of an origin, and the end of its object.
+/// Appends the last members of an origin or a customer, and the end of its object.
 #[tactic(auto, unfolding(crate::specs::Texts::Json::json_expires))]
-fn push_expires(text: &mut String, held: &Held, name: &str) -> Result<(), AllocError>
-    ensures { Grows result text.old text.new (json_expires name.now held.now.until) }
+fn push_expires(text: &mut String, name: &str, expires: u64) -> Result<(), AllocError>
+    ensures { Grows result text.old text.new (json_expires name.now expires) }
 {
     let name = JsonString(name);
-    let expires = seconds_of(held.until);
     write!(text, ", \"ta\": {name}, \"expires\": {expires} }}")
 }
 
@@ -193,10 +193,12 @@ fn push_aspa(text: &mut String, aspa: Aspa<'_>, name: &str) -> Result<(), AllocE
     let Aspa {
         customer,
         providers,
+        expires,
     } = aspa;
     push_customer(text, customer)?;
     push_providers(text, providers)?;
-    push_ta(text, name)
+    text.push_str("]")?;
+    push_expires(text, name, expires)
 }
 
 /// Appends the first member of a customer, and the beginning of the list of its providers.
@@ -218,13 +220,4 @@ fn push_providers(text: &mut String, providers: Providers<'_>) -> Result<(), All
     push_separated(text, providers, ", ", |text, provider| {
         write!(text, "\"{provider}\"")
     })
-}
-
-/// Appends the end of the list of providers, the name of the locators, and the end of the object.
-#[tactic(auto, unfolding(crate::specs::Texts::Json::json_ta))]
-fn push_ta(text: &mut String, name: &str) -> Result<(), AllocError>
-    ensures { Grows result text.old text.new (json_ta name.now) }
-{
-    let name = JsonString(name);
-    write!(text, "], \"ta\": {name} }}")
 }

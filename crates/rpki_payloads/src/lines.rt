@@ -61,7 +61,7 @@ fn push_origin(text: &mut String, origin: &Origin) -> Result<(), AllocError>
 /// Appends the lines of customers.
 fn push_customers(text: &mut String, providers: &BTreeMap<Provider, Held>) -> Result<(), AllocError>
     ensures { Grows result text.old text.new
-        (flat_map aspa_line (customers_of (keys providers.now))) }
+        (flat_map aspa_line (customers_of providers.now.entries)) }
 {
     for aspa in aspas_of(providers) {
         push_aspa(text, aspa)?;
@@ -76,6 +76,7 @@ fn push_aspa(text: &mut String, aspa: Aspa<'_>) -> Result<(), AllocError>
     let Aspa {
         customer,
         providers,
+        ..
     } = aspa;
     write!(text, "aspa {customer}")?;
     push_providers(text, providers)?;

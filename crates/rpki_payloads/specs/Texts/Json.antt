@@ -30,14 +30,14 @@ json_origin o = codes "\n    { \"asn\": \"" ++ (asn_text o.asn
     ++ (codes "\", \"prefix\": \"" ++ (prefix_of o
     ++ (codes "\", \"maxLength\": " ++ decimal o.max_len))))
 
--- its last members, as `, "ta": "anchor", "expires": 1798761600 }`
-unfoldable pub json_expires : List ℕ → Moment → List ℕ
-json_expires name until = codes ", \"ta\": " ++ (json_string name
-    ++ (codes ", \"expires\": " ++ (decimal (seconds_since until) ++ codes " }")))
+-- the last members of an origin or a customer, as `, "ta": "anchor", "expires": 1798761600 }`
+unfoldable pub json_expires : List ℕ → ℕ → List ℕ
+json_expires name expires = codes ", \"ta\": " ++ (json_string name
+    ++ (codes ", \"expires\": " ++ (decimal expires ++ codes " }")))
 
 -- the object of an origin, with the name of its locators and until when it holds
 abbrev pub json_roa : NamedOrigin → List ℕ
-json_roa o = json_origin o.origin ++ json_expires o.name o.until
+json_roa o = json_origin o.origin ++ json_expires o.name (seconds_since o.until)
 
 -- a customer before its providers, as `{ "customer": "AS64496", "providers": [`
 unfoldable pub json_customer : ℕ → List ℕ
@@ -47,14 +47,12 @@ json_customer n = codes "\n    { \"customer\": \"" ++ (asn_text n ++ codes "\", 
 abbrev pub json_provider : ℕ → List ℕ
 json_provider n = codes "\"" ++ (asn_text n ++ codes "\"")
 
--- what follows its providers, as `], "ta": "anchor" }`
-unfoldable pub json_ta : List ℕ → List ℕ
-json_ta name = codes "], \"ta\": " ++ (json_string name ++ codes " }")
-
--- the object of a customer with its providers and the name of its locators
+-- the object of a customer with its providers, the name of its locators and until when all of its
+-- providers hold
 abbrev pub json_aspa : NamedCustomer → List ℕ
 json_aspa c = json_customer c.customer.number
-    ++ (separated (codes ", ") json_provider c.customer.providers ++ json_ta c.name)
+    ++ (separated (codes ", ") json_provider c.customer.providers
+    ++ (codes "]" ++ json_expires c.name c.customer.expires))
 
 -- the origins, each on a line
 unfoldable pub json_roas : List NamedOrigin → List ℕ

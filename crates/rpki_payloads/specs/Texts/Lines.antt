@@ -28,7 +28,7 @@ aspa_line c =
 -- what was found under one name: origins in their order, and then customers in theirs
 abbrev pub lines_under : FoundUnder → List ℕ
 lines_under f = flat_map origin_line (keys f.found.payloads.origins)
-    ++ flat_map aspa_line (customers_of (keys f.found.payloads.providers))
+    ++ flat_map aspa_line (customers_of f.found.payloads.providers.entries)
 
 -- a line for each payload, name by name
 abbrev pub lines_text : List FoundUnder → List ℕ

@@ -54,7 +54,8 @@ const JSON: &str = "{
     \"ta\": \"one\", \"expires\": 2082758400 }
   ],
   \"aspas\": [
-    { \"customer\": \"AS65001\", \"providers\": [\"AS65010\", \"AS65011\"], \"ta\": \"one\" }
+    { \"customer\": \"AS65001\", \"providers\": [\"AS65010\", \"AS65011\"], \
+    \"ta\": \"one\", \"expires\": 2082758400 }
   ]
 }
 ";
