@@ -40,7 +40,7 @@ walk_from-requires g c =
 
 pub returns-in-Ok-walk_from-clause-reads : goal.returns-in-Ok-walk_from-clause-reads
 returns-in-Ok-walk_from-clause-reads g c = (
-  read_as c.start_place-start.result c.in-Ok-Told.told 0,
+  read_as c.start_place-start.result c.in-Ok-Told.told,
   (c.in-Ok.ca, c.in-Ok.ensures, c.start_place-start.ensures),
   c.in-Ok-walk_from.ensures.reads,
 )
