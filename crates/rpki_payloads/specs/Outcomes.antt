@@ -43,7 +43,7 @@ abbrev pub IsOutcome : Setting → Locator → ℕ → Outcome → Type 0
 IsOutcome s tal limit (Ok found) = IsFoundIn s tal limit found
 IsOutcome s tal limit (Err fault) = (fault ≢ Memory) × WhyNoRun s tal limit fault
 
--- the same, of the locator with this name
+-- what a run under the locator with this name comes to, other than want of memory
 abbrev pub IsNamedOutcome : Setting → List ℕ → Locator → ℕ → AnchorOutcome → Type 0
 IsNamedOutcome s name tal limit a = (a.name ≡ name) × IsOutcome s tal limit a.outcome
 
@@ -52,7 +52,7 @@ abbrev pub IsOutcomeUnder : Party → PayloadsRequest → List ℕ → Locator �
 IsOutcomeUnder party request name tal a =
     IsNamedOutcome (setting_of party request name tal) name tal party.limit a
 
--- what it comes to under the locator that this file is
+-- what the run for a request comes to under the locator that this file is
 abbrev pub IsOutcomeOf : Party → PayloadsRequest → File → AnchorOutcome → Type 0
 IsOutcomeOf party request file a = (tal : Locator) × IsLocator file tal
     × IsOutcomeUnder party request (locator_name file.0) tal a

@@ -17,7 +17,8 @@ pub record Party : Type 1 where
   pub verdict : Verdict
   pub limit : ℕ
 
--- what it knows of a validation run for this request, under the locator with this name
+-- what a relying party knows of a validation run for this request, under the locator with this
+-- name
 abbrev pub setting_of : Party → PayloadsRequest → List ℕ → Locator → Setting
 setting_of party request name tal = record {
   finds = FindsIn (party.finds request.copy) name tal;
@@ -27,7 +28,7 @@ setting_of party request name tal = record {
   providers = request.providers;
 }
 
--- what this one knows, where this is what its folders find, and what cryptography says
+-- what a relying party knows, where this is what its folders find, and what cryptography says
 abbrev pub party_of : {F C : Type 0} → (F → List ℕ → List ℕ → Result (List ℕ) NoFile → Type 0)
     → (C → Digester) → (C → Verdict) → FolderParty F C → Party
 party_of finds digest verdict p = record {

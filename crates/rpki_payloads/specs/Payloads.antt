@@ -18,6 +18,7 @@ pub record NamedOrigin : Type 0 where
   pub origin : Origin
   pub until : Moment
 
+-- an origin with the name of the locators under which it was found
 abbrev pub named_origin : List ℕ → Origin × Held → NamedOrigin
 named_origin name e = record { name = name; origin = e.0; until = e.1.until }
 
@@ -71,6 +72,7 @@ pub record NamedCustomer : Type 0 where
   pub name : List ℕ
   pub customer : Customer
 
+-- a customer with the name of the locators under which its providers were found
 abbrev pub named_customer : List ℕ → Customer → NamedCustomer
 named_customer name c = record { name = name; customer = c }
 

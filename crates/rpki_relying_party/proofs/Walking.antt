@@ -20,7 +20,7 @@ use Rattle.rpki_relying_party.specs.Paths.{Leads}
 use Rattle.rpki_relying_party.specs.Walk.{Read, Left, Try, IsToldChild, IsMet, HasKey, IsWalk}
 use Rattle.rpki_relying_party.specs.Walk.{IsSmall, IsLastTry, places_read, places_settled}
 use Rattle.rpki_relying_party.specs.Walk.{places_told, spent_on, total, first_room}
-use Rattle.rpki_relying_party.specs.Steps.{IsHeard, ArePassed, IsNext, IsLeft, IsVisit, WasLeft}
+use Rattle.rpki_relying_party.specs.Steps.{IsHeard, ArePassed, IsTurn, IsLeft, IsVisit, WasLeft}
 use Rattle.rpki_relying_party.specs.Steps.{WasCut, WasRead, Settles, Spends, left_for}
 use Rattle.rpki_relying_party.proofs.Lists.{nothing, all-of, contains-first, contains-rest}
 use Rattle.rpki_relying_party.proofs.Lists.{contains-mapped, distinct-none, all-front}
@@ -468,7 +468,7 @@ module _ {P X : Type 0} (tells : P → List X → List P → Type 0) (costs exce
       (unread unread2 : List (Left P)) (settled settled2 : List ℕ → Bool)
       (spent spent2 : List ℕ → ℕ) (p : P) (k : List ℕ) (waiting waiting0 waiting2 : List P)
       (allowed done : ℕ) (r0 : Run (lists found) (has found) room unread settled spent waiting0)
-      (n : IsNext key settled waiting0 waiting p k) (some : 0 < allowed) (fits : allowed ≤ room)
+      (n : IsTurn key settled waiting0 waiting p k) (some : 0 < allowed) (fits : allowed ≤ room)
       (most : allowed ≤ spent k + first_room limit)
       (grows : (allowed ≡ room) ⊎ (spent k < allowed)) where
     r : Run (lists found) (has found) room unread settled spent (p ∷ waiting)
@@ -555,7 +555,7 @@ module _ {P X : Type 0} (tells : P → List X → List P → Type 0) (costs exce
   pub run-limited : (lists has : X → Type 0) (room : ℕ) (unread unread2 : List (Left P))
       (settled settled2 : List ℕ → Bool) (spent : List ℕ → ℕ) (waiting waiting2 : List P) (p : P)
       (k : List ℕ) → Run lists has room unread settled spent waiting
-      → (room ≡ 0) ⊎ (waiting ≡ []) → IsNext key settled waiting waiting2 p k
+      → (room ≡ 0) ⊎ (waiting ≡ []) → IsTurn key settled waiting waiting2 p k
       → IsLeft p k Limit 0 unread unread2 settled settled2
       → Run lists has room unread2 settled2 spent waiting2 × (room ≡ 0)
   run-limited lists has room unread unread2 settled settled2 spent waiting waiting2 p k r stop n u = (

@@ -112,6 +112,7 @@ ListCosts s folder signer manifest n =
     (((file : UriAndHash) → ¬ IsListFile folder signer manifest file) × (n ≡ 0))
     ⊎ ((file : UriAndHash) × IsListFile folder signer manifest file × ReadCosts s (file.0) n)
 
+-- What is spent on some first steps with the revocation list of a manifest.
 abbrev pub ListStarts : Setting → List ℕ → Certificate → Manifest → ℕ → Type 0
 ListStarts s folder signer manifest n =
     (file : UriAndHash) × IsListFile folder signer manifest file × ReadStarts s (file.0) n
@@ -133,6 +134,7 @@ ListedCosts s ca folder signer manifest n =
     ⊎ AfterList s ca folder signer manifest (λ list_uri list files m.
     FilesCost s ca list_uri list files m ⊎ FilesLost s ca list_uri list files m) n
 
+-- What is spent on some first steps after the manifest.
 abbrev pub ListedStarts : Setting → Validated → List ℕ → Certificate → Manifest → ℕ → Type 0
 ListedStarts s ca folder signer manifest n = ListStarts s folder signer manifest n
     ⊎ AfterList s ca folder signer manifest (FilesStart s ca) n
@@ -152,6 +154,7 @@ PointCosts s ca folder uri n =
     (((cause : Cause) × WhyNoManifestOf s ca folder uri cause) × ReadCosts s uri n)
     ⊎ AfterManifest s ca folder uri (ListedCosts s ca folder) n
 
+-- What is spent on some first steps with the point in this folder, whose manifest has this URI.
 abbrev pub PointStarts : Setting → Validated → List ℕ → List ℕ → ℕ → Type 0
 PointStarts s ca folder uri n = ReadStarts s uri n
     ⊎ AfterManifest s ca folder uri (ListedStarts s ca folder) n

@@ -6,7 +6,8 @@ use Rattle.rpki_relying_party.specs.Setting.{Setting}
 use Rattle.rpki_relying_party.specs.declared.copy.NoFile.{NoFile}
 use Rattle.rpki_relying_party.specs.declared.pass.Pass.{Pass}
 
--- what it knows, where it is told what reads of the copy may find, and what cryptography says
+-- what a validation run knows, where it is told what reads of the copy may find, and what
+-- cryptography says
 abbrev pub setting : {R C : Type 0} → (R → List ℕ → Result (List ℕ) NoFile → Type 0)
     → (C → Digester) → (C → Verdict) → Pass R C → Setting
 setting finds digest verdict p = record {

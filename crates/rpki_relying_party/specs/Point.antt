@@ -97,7 +97,8 @@ pub record IsListFile (folder : List ℕ) (signer : Certificate) (manifest : Man
   pub named : signer.tbs.extensions.locations.crl ≡ Some (file.0)
   pub listed : Contains (uris_of folder manifest.files) file
 
--- Such a file, with this URI, is a revocation list of the CA, and does not revoke that certificate.
+-- The file that the certificate of the manifest names as its revocation list, with this URI, is a
+-- revocation list of the CA, and does not revoke that certificate.
 pub record IsListAt (s : Setting) (ca : Validated) (folder : List ℕ) (signer : Certificate)
     (manifest : Manifest) (uri : List ℕ) (list : RevocationList) : Type 0 where
   pub hash : List ℕ

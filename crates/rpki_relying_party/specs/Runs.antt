@@ -107,6 +107,7 @@ abbrev pub lister_of : Place → Option (List ℕ)
 lister_of p =
     option_or p.listed_by p.ca.cert.certificate.tbs.extensions.locations.subject.rpki_manifest
 
+-- whether a place was left since no work was left for it
 abbrev pub is_limit : Why → Bool
 is_limit Limit = true
 is_limit Memory = false

@@ -19,18 +19,22 @@ FindsOne s =
 
 -- ---- causes as they are shown: what does not decode is malformed, whichever fault was met first
 
+-- why octets are not a good object, as it is shown
 abbrev pub shown_check : CheckError → CheckError
 shown_check (checks.Decode error) = checks.Decode Malformed
 shown_check (checks.Validation fault) = checks.Validation fault
 
+-- why a certificate is refused, as it is shown
 abbrev pub shown_issuer : IssuerError → IssuerError
 shown_issuer (issuers.Decode error) = issuers.Decode Malformed
 shown_issuer (issuers.Validation fault) = issuers.Validation fault
 
+-- why a manifest is refused, as it is shown
 abbrev pub shown_manifest : ManifestFault → ManifestFault
 shown_manifest (manifests.Refused error) = manifests.Refused (shown_check error)
 shown_manifest fault = fault
 
+-- why something is refused, as it is shown
 abbrev pub shown : Cause → Cause
 shown (causes.Manifest fault) = causes.Manifest (shown_manifest fault)
 shown (causes.Object error) = causes.Object (shown_check error)

@@ -80,7 +80,7 @@ pub record ArePassed {P : Type 0} (key : P → List ℕ) (settled : List ℕ →
 
 -- The next place, with its key, is one of those that waited whose keys are not settled. Those before
 -- it are passed over.
-pub record IsNext {P : Type 0} (key : P → List ℕ) (settled : List ℕ → Bool)
+pub record IsTurn {P : Type 0} (key : P → List ℕ) (settled : List ℕ → Bool)
     (waiting waiting2 : List P) (p : P) (k : List ℕ) : Type 0 where
   pub passed : ArePassed key settled waiting (p ∷ waiting2)
   pub its : k ≡ key p

@@ -67,19 +67,21 @@ abbrev pub HasContent : {X : Type 0} → Setting → ObjectKind X → (List ℕ 
 HasContent s kind form ca list octets cert x = HasGood s kind form ca octets (λ o.
     IsUnrevoked list o.object.signed.cert × (o.object.signed.cert ≡ cert) × (o.content ≡ x))
 
--- They begin with such a ROA, whose certificate names prefixes alone.
+-- The octets begin with a ROA that is good under the CA, whose certificate the list does not revoke
+-- and names prefixes alone.
 abbrev pub HasRoa : Setting → Validated → RevocationList → List ℕ → Certificate → Roa → Type 0
 HasRoa s ca list octets cert roa = HasContent s roa_kind RoaForm ca list octets cert roa
     × NamesPrefixesAlone cert.tbs.extensions.claims
 
--- They begin with such an ASPA (draft-ietf-sidrops-aspa-profile-15, section 4).
+-- The octets begin with an ASPA that is good under the CA and whose certificate the list does not
+-- revoke (draft-ietf-sidrops-aspa-profile-15, section 4).
 abbrev pub HasAspa : Setting → Validated → RevocationList → List ℕ → Certificate → Aspa → Type 0
 HasAspa s ca list octets cert aspa =
     HasContent s aspa_kind (AspaForm s.providers) ca list octets cert aspa
 
--- They begin with the certificate of a CA, which is good under this one (RFC 6487, section 7.2),
--- which the list does not revoke, and whose validated numbers are these. That further octets may
--- follow it is this project's own rule.
+-- The octets begin with the certificate of a CA, which is good under this one (RFC 6487, section
+-- 7.2), which the list does not revoke, and whose validated numbers are these. That further octets
+-- may follow it is this project's own rule.
 abbrev pub HasCa : Setting → Validated → RevocationList → List ℕ → Validated → Type 0
 HasCa s ca list octets v =
     BeginsWithCert octets (λ c. AllHold (ca_validation s.verdict c ca s.now)
@@ -90,12 +92,13 @@ HasCa s ca list octets v =
 abbrev pub IsEntity : Certificate → Type 0
 IsEntity c = (c.tbs.extensions.key.basic_ca ≡ None) × (c.tbs.extensions.key.usage ≡ Ee)
 
--- They begin with the certificate of an end entity.
+-- The octets begin with the certificate of an end entity.
 abbrev pub HasEntity : List ℕ → Type 0
 HasEntity octets = BeginsWithCert octets IsEntity
 
 -- ---- why a file is refused: the first check that fails
 
+-- Why a ROA is refused: a check of it fails, or its certificate does not name prefixes alone.
 abbrev pub WhyNoRoa : Setting → Validated → RevocationList → List ℕ → Cause → Type 0
 WhyNoRoa s ca list octets (causes.Object error) =
     Checks roa_kind RoaForm Der s.digest s.verdict ca s.now (SaysOf list) octets (Err error)
@@ -105,13 +108,14 @@ WhyNoRoa s ca list octets causes.RoaCertificate = (cert : Certificate) × (roa :
     × (¬ NamesPrefixesAlone cert.tbs.extensions.claims)
 WhyNoRoa s ca list octets cause = ⊥
 
+-- Why an ASPA is refused: a check of it fails.
 abbrev pub WhyNoAspa : Setting → Validated → RevocationList → List ℕ → Cause → Type 0
 WhyNoAspa s ca list octets (causes.Object error) = Checks aspa_kind (AspaForm s.providers) Der
     s.digest s.verdict ca s.now (SaysOf list) octets (Err error)
     × (¬ IsCheckMemory error)
 WhyNoAspa s ca list octets cause = ⊥
 
--- The certificate of an end entity is passed over.
+-- Why a certificate is refused: a check of it fails. That of an end entity is passed over.
 abbrev pub WhyNoCa : Setting → Validated → RevocationList → List ℕ → Cause → Type 0
 WhyNoCa s ca list octets (causes.Certificate error) =
     IsCaUnder s.verdict s.now ca list octets (Err error) × (¬ IsIssuerMemory error)
@@ -120,7 +124,7 @@ WhyNoCa s ca list octets cause = ⊥
 
 -- ---- what is told: what is said, and the CAs that are held
 
--- the URI of the manifest under which a refusal below this place stands: that of the CA
+-- The refusal of what has this URI, for this cause, below the CA whose manifest has the last URI.
 abbrev pub refusal : List ℕ → Cause → List ℕ → Finding
 refusal uri cause under =
     findings.Refusal (record { uri = uri; cause = cause; under = under })
@@ -166,6 +170,8 @@ RoaTells s ca list until under uri octets said =
     × (said ≡ origins_said (earlier until cert.tbs.validity.not_after) uri roa))
     ⊎ ((cause : Cause) × WhyNoRoa s ca list octets cause × (said ≡ refusal uri cause under ∷ []))
 
+-- A file that should hold an ASPA says its providers, until the certificate of the ASPA ends or all
+-- that leads to it does; or it is refused.
 abbrev pub AspaTells : Setting → Validated → RevocationList → Moment → List ℕ → List ℕ → List ℕ
     → List Finding → Type 0
 AspaTells s ca list until under uri octets said =

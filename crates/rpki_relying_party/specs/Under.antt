@@ -33,8 +33,8 @@ abbrev pub ca_checks : Verdict → Moment → Validated → RevocationList → C
 ca_checks verdict now issuer list c =
     ca_validation verdict c issuer now ++ (Verification Caller unless IsUnrevoked list c) ∷ []
 
--- What is answered of octets that may begin with such a certificate: where each check holds, it
--- with its validated numbers, and else the fault of the first that does not (`OfCert`).
+-- What is answered of octets that may begin with the certificate of a CA: where each check holds,
+-- it with its validated numbers, and else the fault of the first that does not (`OfCert`).
 abbrev pub IsCaUnder : Verdict → Moment → Validated → RevocationList → List ℕ
     → Result Validated IssuerError → Type 0
 IsCaUnder verdict now issuer list octets result =

@@ -6,7 +6,7 @@ ghost use Rattle.rpki_relying_party.specs.Paths.{IsSaid, IsFound, IsChild, Leads
 ghost use Rattle.rpki_relying_party.specs.Walk.{IsWalk, places_left, first_room};
 ghost use Rattle.rpki_relying_party.specs.Steps.{has_key, spent_for, read_as, IsTelling};
 ghost use Rattle.rpki_relying_party.specs.Steps.{Settles, Spends, AreMet, IsHeard, ArePassed};
-ghost use Rattle.rpki_relying_party.specs.Steps.{IsNext, IsLeft, IsVisit};
+ghost use Rattle.rpki_relying_party.specs.Steps.{IsTurn, IsLeft, IsVisit};
 
 use crate::places::{Places, Reading, Told};
 use crate::queue::{Queue, Turn};
@@ -185,7 +185,7 @@ fn next_due<P: Places>(
     ensures { IfOk result (λ next. MatchOption next
         (ArePassed (P.key_of places.now) (has_key settled.now) queue.old queue.new
         × (queue.new ≡ []))
-        (λ due. IsNext (P.key_of places.now) (has_key settled.now) queue.old queue.new due.place
+        (λ due. IsTurn (P.key_of places.now) (has_key settled.now) queue.old queue.new due.place
         due.key.items)) }
 {
     while let Some(turn) = queue.take() {
@@ -211,7 +211,7 @@ fn next_turn<P: Places>(
     ensures { IfOk result (λ next. MatchOption next
         (ArePassed (P.key_of places.now) (has_key settled.now) queue.old queue.new
         × ((room ≡ 0) ⊎ (queue.new ≡ [])))
-        (λ due. IsNext (P.key_of places.now) (has_key settled.now) queue.old queue.new due.place
+        (λ due. IsTurn (P.key_of places.now) (has_key settled.now) queue.old queue.new due.place
         due.key.items × (0 < room))) }
 {
     if room == 0 {

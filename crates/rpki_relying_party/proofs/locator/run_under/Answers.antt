@@ -45,7 +45,7 @@ returns-in-Ok-walk_from-clause-reads g c =
     let told = subst (λ (r : PointReading).
     IsPointReading s c.start_place-start.result c.args.limit r) c.in-Ok-Told.field-0-is
     c.in-Ok-Told.ensures in (
-      read_as c.start_place-start.result c.in-Ok-Told.told 0,
+      read_as c.start_place-start.result c.in-Ok-Told.told,
       (c.in-Ok.ca, c.in-Ok.ensures, c.start_place-start.ensures),
       told.0,
       c.in-Ok-walk_from.ensures.reads,
