@@ -301,26 +301,26 @@ module _ (s : Setting) (one : FindsOne s) (p q : Place) (alike : AreAlike q p)
 
 module _ (s : Setting) (one : FindsOne s) (tal : Locator) (limit : ℕ) (old new : Found)
     (unread : List (Left Place)) (run : IsRunUnder s tal limit old new unread) where
-  told : (r : Read Place Finding) → Contains run.2.reads r
+  told : (r : Read Place Finding) → Contains run.3.reads r
       → PlaceTells s r.place r.said r.children
-  told r c = All-contains (λ r. PlaceTells s r.place r.said r.children) run.2.reads r run.2.told c
+  told r c = All-contains (λ r. PlaceTells s r.place r.said r.children) run.3.reads r run.3.told c
 
   reached : (path : List Place) (place : Place) → Leads (PublishesCa s) run.0.place path place
-      → ((r : Read Place Finding) × Contains run.2.reads r × (key_of r.place ≡ key_of place))
+      → ((r : Read Place Finding) × Contains run.3.reads r × (key_of r.place ≡ key_of place))
       ⊎ Passes key_of (places_left unread) run.0.place path
   reached = chains.reached (PlaceTells s) (PlaceCosts s) (PlaceExceeds s) key_of (Lists old)
-      (Lists new) (HasAsLong old) (HasAsLong new) (run.0) limit unread (run.2) (PublishesCa s)
+      (Lists new) (HasAsLong old) (HasAsLong new) (run.0) limit unread (run.3) (PublishesCa s)
       (λ p c r h. ca-alike s one p r.0.place (same-key r.0.place p (r.2)) r.0.said r.0.children
       (told (r.0) (r.1)) c h)
 
-  held : (r : Read Place Finding) → Contains run.2.reads r → (place : Place)
+  held : (r : Read Place Finding) → Contains run.3.reads r → (place : Place)
       → key_of r.place ≡ key_of place → (x : Payload) (h : Held) → PublishesPayload s place x h
       → HoldsPayload new x
   held r c place e x h p =
       let k = payload-alike s one place r.place (same-key r.place place e) r.said r.children
       (told r c) x h p in
       let g = All-contains (HasAsLong new) r.said (findings.Payload x (k.0)) (All-contains
-      (λ r. All (HasAsLong new) r.said) run.2.reads r run.2.kept c) (k.1) in
+      (λ r. All (HasAsLong new) r.said) run.3.reads r run.3.kept c) (k.1) in
       (g.0, g.1)
 
   below-first : (place : Place) (path : List Place) (x : Payload) (h : Held)
