@@ -20,7 +20,7 @@ use Rattle.rpki_relying_party.specs.Paths.{Leads}
 use Rattle.rpki_relying_party.specs.Walk.{Read, Left, Try, IsToldChild, IsMet, HasKey, IsWalk}
 use Rattle.rpki_relying_party.specs.Walk.{IsSmall, IsLastTry, places_read, places_settled}
 use Rattle.rpki_relying_party.specs.Walk.{places_told, spent_on, total, first_room}
-use Rattle.rpki_relying_party.specs.Steps.{IsHeard, ArePassed, IsTurn, IsLeft, IsVisit, WasLeft}
+use Rattle.rpki_relying_party.specs.Steps.{IsHeard, ArePassed, IsTurn, IsLeftFor, IsVisit, WasLeft}
 use Rattle.rpki_relying_party.specs.Steps.{WasCut, WasRead, Settles, Spends, left_for}
 use Rattle.rpki_relying_party.proofs.Lists.{nothing, all-of, contains-first, contains-rest}
 use Rattle.rpki_relying_party.proofs.Lists.{contains-mapped, distinct-none, all-front}
@@ -556,7 +556,7 @@ module _ {P X : Type 0} (tells : P → List X → List P → Type 0) (costs exce
       (settled settled2 : List ℕ → Bool) (spent : List ℕ → ℕ) (waiting waiting2 : List P) (p : P)
       (k : List ℕ) → Run lists has room unread settled spent waiting
       → (room ≡ 0) ⊎ (waiting ≡ []) → IsTurn key settled waiting waiting2 p k
-      → IsLeft p k Limit 0 unread unread2 settled settled2
+      → IsLeftFor p k Limit 0 unread unread2 settled settled2
       → Run lists has room unread2 settled2 spent waiting2 × (room ≡ 0)
   run-limited lists has room unread unread2 settled settled2 spent waiting waiting2 p k r stop n u = (
     subst (λ (l : List (Left P)). Run lists has room l settled2 spent waiting2) (sym u.now)

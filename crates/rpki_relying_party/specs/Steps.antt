@@ -88,7 +88,7 @@ pub record IsTurn {P : Type 0} (key : P → List ℕ) (settled : List ℕ → Bo
 
 -- A place with this key was left unread for this, after a last try that took so much: the key is
 -- settled.
-pub record IsLeft {P : Type 0} (p : P) (k : List ℕ) (why : Why) (tried : ℕ)
+pub record IsLeftFor {P : Type 0} (p : P) (k : List ℕ) (why : Why) (tried : ℕ)
     (unread unread2 : List (Left P)) (settled settled2 : List ℕ → Bool) : Type 0 where
   pub settles : Settles k settled settled2
   pub now : unread2 ≡ unread ++ left_for p why tried ∷ []
@@ -97,7 +97,7 @@ pub record IsLeft {P : Type 0} (p : P) (k : List ℕ) (why : Why) (tried : ℕ)
 pub record WasLeft {P F : Type 0} (p : P) (k : List ℕ) (room done : ℕ) (found found2 : F)
     (unread unread2 : List (Left P)) (settled settled2 : List ℕ → Bool)
     (spent spent2 : List ℕ → ℕ) (waiting waiting2 : List P) : Type 0 where
-  pub left : IsLeft p k Memory room unread unread2 settled settled2
+  pub left : IsLeftFor p k Memory room unread unread2 settled settled2
   pub all : done ≡ room
   pub same_found : found2 ≡ found
   pub same_spent : spent2 ≡ spent

@@ -6,7 +6,7 @@ ghost use Rattle.rpki_relying_party.specs.Paths.{IsSaid, IsFound, IsChild, Leads
 ghost use Rattle.rpki_relying_party.specs.Walk.{IsWalk, places_left, first_room};
 ghost use Rattle.rpki_relying_party.specs.Steps.{has_key, spent_for, read_as, IsTelling};
 ghost use Rattle.rpki_relying_party.specs.Steps.{Settles, Spends, AreMet, IsHeard, ArePassed};
-ghost use Rattle.rpki_relying_party.specs.Steps.{IsTurn, IsLeft, IsVisit};
+ghost use Rattle.rpki_relying_party.specs.Steps.{IsTurn, IsLeftFor, IsVisit};
 
 use crate::places::{Places, Reading, Told};
 use crate::queue::{Queue, Turn};
@@ -131,7 +131,7 @@ fn leave<P: Drop>(
     settled: &mut BTreeSet<Vec<u8>>,
     unread: &mut Vec<Unread<P>>,
 ) -> Result<(), AllocError>
-    ensures { OnOk result (IsLeft due.place due.key.items why tried unread.old.items
+    ensures { OnOk result (IsLeftFor due.place due.key.items why tried unread.old.items
         unread.new.items (has_key settled.old) (has_key settled.new)) }
 {
     let Due { place, key, .. } = due;
