@@ -78,8 +78,8 @@ pub record ArePassed {P : Type 0} (key : P → List ℕ) (settled : List ℕ →
   pub over : All (λ p. IsTrue (settled (key p))) passed
   pub split : IsPermutation waiting (passed ++ waiting2)
 
--- The next place, with its key, is one of those that waited whose keys are not settled. Those before
--- it are passed over.
+-- The turn is that of a place with this key, which is not settled. Those that waited before it are
+-- passed over.
 pub record IsTurn {P : Type 0} (key : P → List ℕ) (settled : List ℕ → Bool)
     (waiting waiting2 : List P) (p : P) (k : List ℕ) : Type 0 where
   pub passed : ArePassed key settled waiting (p ∷ waiting2)

@@ -44,7 +44,8 @@ places_told start reads = start ∷ flat_map (λ r. r.children) reads
 abbrev pub spent_on : {P : Type 0} → (P → List ℕ) → List (Try P) → List ℕ → ℕ
 spent_on key cuts k = sum_by (λ t. cond (bytes_eq (key t.place) k) t.room 0) cuts
 
--- how much work all was: the reads, the tries for which there was no memory, and those that were cut
+-- how much work all was: the reads, the tries for which there was no memory, and those that were
+-- cut
 abbrev pub total : {P X : Type 0} → List (Read P X) → List (Left P) → List (Try P) → ℕ
 total reads unread cuts =
     sum_by (λ r. r.cost) reads + (sum_by (λ u. u.tried) unread + sum_by (λ t. t.room) cuts)
