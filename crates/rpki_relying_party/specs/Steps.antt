@@ -1,6 +1,7 @@
 -- The steps of a walk.
 use Rattle.std.specs.Prelude.{◌≡◌, ◌↔◌, ◌⊎◌, ℕ, ◌+◌, ◌<◌, ◌≤◌, List, [], ◌∷◌, ◌++◌, Contains}
-use Rattle.std.specs.Prelude.{All, Bool, IsTrue, IsPermutation, Vec, bytes_eq, cond, unwrap_or}
+use Rattle.std.specs.Prelude.{All, Bool, IsTrue, IsPermutation, Vec, bytes_eq, unwrap_or}
+use Rattle.std.specs.Prelude.{if◌then◌else◌}
 use Rattle.std.specs.declared.alloc.Global.{Global}
 use Rattle.std.specs.BTreeMap.{BTreeMap, get_by}
 use Rattle.std.specs.BTreeSet.{BTreeSet, contains_by}
@@ -45,7 +46,8 @@ spent_for spent octets = unwrap_or (get_by (λ k. slice_cmp nat_cmp octets k.ite
 
 -- So much more was spent on tries of the key, and of no other.
 abbrev pub Spends : List ℕ → ℕ → (List ℕ → ℕ) → (List ℕ → ℕ) → Type 0
-Spends key room old new = (k : List ℕ) → new k ≡ old k + cond (bytes_eq key k) room 0
+Spends key room old new =
+    (k : List ℕ) → new k ≡ old k + (if bytes_eq key k then room else 0)
 
 -- a place that was read, as it told
 abbrev pub read_as : {P X : Type 0} → P → Told P X → Read P X
