@@ -720,7 +720,7 @@ def long_chain(t, count):
 
 # With how many there are of what, of the proved program and of another one.
 HOSTILE = [
-    ("two manifests that list one certificate many times", many_names, 40, 40),
+    ("two manifests that list one certificate many times", many_names, 1_001, 40),
     ("two keys that certify each other", two_keys, 8, 3),
     ("a ROA of 2,000 prefixes that is listed many times", one_roa, 1_000, 10),
     ("a point with a long list that is certified many times", one_point, 300, 8),

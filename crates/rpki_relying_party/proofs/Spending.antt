@@ -104,7 +104,8 @@ module _ {P : Type 0} (key : P → List ℕ) (exceeds : P → ℕ → Type 0) wh
         → (k : List ℕ) → IsSmall key exceeds times k (spent_on key cuts2 k)
     each-small times before here k = by (bytes_eq (key p) k) refl
       where
-        by : (b : Bool) → bytes_eq (key p) k ≡ b → IsSmall key exceeds times k (spent_on key cuts2 k)
+        by : (b : Bool) → bytes_eq (key p) k ≡ b
+            → IsSmall key exceeds times k (spent_on key cuts2 k)
         by true e = subst (λ (j : List ℕ). IsSmall key exceeds times j (spent_on key cuts2 j))
             ((bytes_eq-Decides (key p) k).0 e) here
         by false e = subst (λ (n : ℕ). IsSmall key exceeds times k n) (sym (spent-else k e))

@@ -20,7 +20,7 @@ use Rattle.rpki_relying_party.specs.Paths.{Leads}
 use Rattle.rpki_relying_party.specs.Walk.{Read, Left, Try, IsToldChild, IsMet, HasKey, IsWalk}
 use Rattle.rpki_relying_party.specs.Walk.{IsSmall, IsLastTry, places_read, places_settled}
 use Rattle.rpki_relying_party.specs.Walk.{places_told, spent_on, total, first_room}
-use Rattle.rpki_relying_party.specs.Steps.{IsHeard, ArePassed, IsTurn, IsLeft, IsVisit, WasLeft}
+use Rattle.rpki_relying_party.specs.Steps.{IsHeard, ArePassed, IsTurn, IsLeftFor, IsVisit, WasLeft}
 use Rattle.rpki_relying_party.specs.Steps.{WasCut, WasRead, Settles, Spends, left_for}
 use Rattle.rpki_relying_party.proofs.Lists.{nothing, all-of, contains-first, contains-rest}
 use Rattle.rpki_relying_party.proofs.Lists.{contains-mapped, distinct-none, all-front}
@@ -556,19 +556,20 @@ module _ {P X : Type 0} (tells : P → List X → List P → Type 0) (costs exce
       (settled settled2 : List ℕ → Bool) (spent : List ℕ → ℕ) (waiting waiting2 : List P) (p : P)
       (k : List ℕ) → Run lists has room unread settled spent waiting
       → (room ≡ 0) ⊎ (waiting ≡ []) → IsTurn key settled waiting waiting2 p k
-      → IsLeft p k Limit 0 unread unread2 settled settled2
+      → IsLeftFor p k Limit 0 unread unread2 settled settled2
       → Run lists has room unread2 settled2 spent waiting2 × (room ≡ 0)
-  run-limited lists has room unread unread2 settled settled2 spent waiting waiting2 p k r stop n u = (
-    subst (λ (l : List (Left P)). Run lists has room l settled2 spent waiting2) (sym u.now)
-        (subst (λ (m : ℕ). Run lists has m (unread ++ left_for p Limit 0 ∷ []) settled2 spent
-        waiting2) same-room
-        (run-left lists has room unread settled spent p waiting2
-        (run-passed lists has room unread settled spent waiting (p ∷ waiting2) r n.passed)
-        (subst (λ (j : List ℕ). ¬ IsTrue (settled j)) n.its n.unsettled) Limit 0 settled2
-        (subst (λ (j : List ℕ). Settles j settled settled2) n.its u.settles) (omega arith) refl
-        (λ l. none-left))),
-    none-left,
-  )
+  run-limited lists has room unread unread2 settled settled2 spent waiting waiting2 p k r stop n
+      u = (
+        subst (λ (l : List (Left P)). Run lists has room l settled2 spent waiting2) (sym u.now)
+            (subst (λ (m : ℕ). Run lists has m (unread ++ left_for p Limit 0 ∷ []) settled2 spent
+            waiting2) same-room
+            (run-left lists has room unread settled spent p waiting2
+            (run-passed lists has room unread settled spent waiting (p ∷ waiting2) r n.passed)
+            (subst (λ (j : List ℕ). ¬ IsTrue (settled j)) n.its n.unsettled) Limit 0 settled2
+            (subst (λ (j : List ℕ). Settles j settled settled2) n.its u.settles) (omega arith) refl
+            (λ l. none-left))),
+        none-left,
+      )
     where
       same-room : room - 0 ≡ room
       same-room = omega arith
@@ -595,7 +596,8 @@ module _ {P X : Type 0} (tells : P → List X → List P → Type 0) (costs exce
         (append-nil r.passed) r.split
 
     -- a place that was told is settled, or one with its key is
-    told-settled : (p : P) → Contains (places_told first.place r.reads) p → HasKey key places (key p)
+    told-settled : (p : P) → Contains (places_told first.place r.reads) p
+        → HasKey key places (key p)
     told-settled p c = elim (Contains-append_cases places r.passed p
         (Contains-permutation (places_told first.place r.reads) (places ++ r.passed) p order c)) [
           | inl here ↦ (p, here, refl)

@@ -1,6 +1,7 @@
 -- The steps of a walk.
 use Rattle.std.specs.Prelude.{◌≡◌, ◌↔◌, ◌⊎◌, ℕ, ◌+◌, ◌<◌, ◌≤◌, List, [], ◌∷◌, ◌++◌, Contains}
-use Rattle.std.specs.Prelude.{All, Bool, IsTrue, IsPermutation, Vec, bytes_eq, cond, unwrap_or}
+use Rattle.std.specs.Prelude.{All, Bool, IsTrue, IsPermutation, Vec, bytes_eq, unwrap_or}
+use Rattle.std.specs.Prelude.{if◌then◌else◌}
 use Rattle.std.specs.declared.alloc.Global.{Global}
 use Rattle.std.specs.BTreeMap.{BTreeMap, get_by}
 use Rattle.std.specs.BTreeSet.{BTreeSet, contains_by}
@@ -45,7 +46,8 @@ spent_for spent octets = unwrap_or (get_by (λ k. slice_cmp nat_cmp octets k.ite
 
 -- So much more was spent on tries of the key, and of no other.
 abbrev pub Spends : List ℕ → ℕ → (List ℕ → ℕ) → (List ℕ → ℕ) → Type 0
-Spends key room old new = (k : List ℕ) → new k ≡ old k + cond (bytes_eq key k) room 0
+Spends key room old new =
+    (k : List ℕ) → new k ≡ old k + (if bytes_eq key k then room else 0)
 
 -- a place that was read, as it told
 abbrev pub read_as : {P X : Type 0} → P → Told P X → Read P X
@@ -78,8 +80,8 @@ pub record ArePassed {P : Type 0} (key : P → List ℕ) (settled : List ℕ →
   pub over : All (λ p. IsTrue (settled (key p))) passed
   pub split : IsPermutation waiting (passed ++ waiting2)
 
--- The next place, with its key, is one of those that waited whose keys are not settled. Those before
--- it are passed over.
+-- The turn is that of a place with this key, which is not settled. Those that waited before it are
+-- passed over.
 pub record IsTurn {P : Type 0} (key : P → List ℕ) (settled : List ℕ → Bool)
     (waiting waiting2 : List P) (p : P) (k : List ℕ) : Type 0 where
   pub passed : ArePassed key settled waiting (p ∷ waiting2)
@@ -88,7 +90,7 @@ pub record IsTurn {P : Type 0} (key : P → List ℕ) (settled : List ℕ → Bo
 
 -- A place with this key was left unread for this, after a last try that took so much: the key is
 -- settled.
-pub record IsLeft {P : Type 0} (p : P) (k : List ℕ) (why : Why) (tried : ℕ)
+pub record IsLeftFor {P : Type 0} (p : P) (k : List ℕ) (why : Why) (tried : ℕ)
     (unread unread2 : List (Left P)) (settled settled2 : List ℕ → Bool) : Type 0 where
   pub settles : Settles k settled settled2
   pub now : unread2 ≡ unread ++ left_for p why tried ∷ []
@@ -97,7 +99,7 @@ pub record IsLeft {P : Type 0} (p : P) (k : List ℕ) (why : Why) (tried : ℕ)
 pub record WasLeft {P F : Type 0} (p : P) (k : List ℕ) (room done : ℕ) (found found2 : F)
     (unread unread2 : List (Left P)) (settled settled2 : List ℕ → Bool)
     (spent spent2 : List ℕ → ℕ) (waiting waiting2 : List P) : Type 0 where
-  pub left : IsLeft p k Memory room unread unread2 settled settled2
+  pub left : IsLeftFor p k Memory room unread unread2 settled settled2
   pub all : done ≡ room
   pub same_found : found2 ≡ found
   pub same_spent : spent2 ≡ spent

@@ -1,6 +1,7 @@
 -- A walk over places: what was read, and what was left unread.
 use Rattle.std.specs.Prelude.{◌≡◌, ◌≢◌, ◌⊎◌, ℕ, ◌+◌, ◌*◌, ◌/◌, ◌<◌, ◌≤◌, List, ◌∷◌, ◌++◌, Contains}
-use Rattle.std.specs.Prelude.{All, AllPairs, IsPermutation, bytes_eq, cond, flat_map, map, sum_by}
+use Rattle.std.specs.Prelude.{All, AllPairs, IsPermutation, bytes_eq, flat_map, map, sum_by}
+use Rattle.std.specs.Prelude.{if◌then◌else◌}
 use Rattle.rpki_relying_party.specs.Paths.{Leads}
 use Rattle.rpki_relying_party.specs.declared.walk.Why.{Why}
 use Rattle.rpki_relying_party.specs.declared.walk.Why.TheVariants.{Limit, Memory}
@@ -42,9 +43,10 @@ places_told start reads = start ∷ flat_map (λ r. r.children) reads
 
 -- how much was spent on cut tries of places with this key
 abbrev pub spent_on : {P : Type 0} → (P → List ℕ) → List (Try P) → List ℕ → ℕ
-spent_on key cuts k = sum_by (λ t. cond (bytes_eq (key t.place) k) t.room 0) cuts
+spent_on key cuts k = sum_by (λ t. if bytes_eq (key t.place) k then t.room else 0) cuts
 
--- how much work all was: the reads, the tries for which there was no memory, and those that were cut
+-- how much work all was: the reads, the tries for which there was no memory, and those that were
+-- cut
 abbrev pub total : {P X : Type 0} → List (Read P X) → List (Left P) → List (Try P) → ℕ
 total reads unread cuts =
     sum_by (λ r. r.cost) reads + (sum_by (λ u. u.tried) unread + sum_by (λ t. t.room) cuts)

@@ -6,7 +6,7 @@ ghost use Rattle.rpki_relying_party.specs.Paths.{IsSaid, IsFound, IsChild, Leads
 ghost use Rattle.rpki_relying_party.specs.Walk.{IsWalk, places_left, first_room};
 ghost use Rattle.rpki_relying_party.specs.Steps.{has_key, spent_for, read_as, IsTelling};
 ghost use Rattle.rpki_relying_party.specs.Steps.{Settles, Spends, AreMet, IsHeard, ArePassed};
-ghost use Rattle.rpki_relying_party.specs.Steps.{IsTurn, IsLeft, IsVisit};
+ghost use Rattle.rpki_relying_party.specs.Steps.{IsTurn, IsLeftFor, IsVisit};
 
 use crate::places::{Places, Reading, Told};
 use crate::queue::{Queue, Turn};
@@ -110,9 +110,9 @@ fn hear<P: Places>(
     front: &mut Front<P::Place>,
     found: &mut P::Found,
 ) -> Result<(), AllocError>
-    ensures heard { OnOk result (IsHeard P.lists P.has due.key.items told.said.items told.children.items
-        found.old found.new (has_key front.old.settled) (has_key front.new.settled)
-        front.old.queue front.new.queue) }
+    ensures heard { OnOk result (IsHeard P.lists P.has due.key.items told.said.items
+        told.children.items found.old found.new (has_key front.old.settled)
+        (has_key front.new.settled) front.old.queue front.new.queue) }
     ensures spent { OnOk result (front.new.spent ≡ front.old.spent) }
 {
     let Due { place, branch, key } = due;
@@ -131,7 +131,7 @@ fn leave<P: Drop>(
     settled: &mut BTreeSet<Vec<u8>>,
     unread: &mut Vec<Unread<P>>,
 ) -> Result<(), AllocError>
-    ensures { OnOk result (IsLeft due.place due.key.items why tried unread.old.items
+    ensures { OnOk result (IsLeftFor due.place due.key.items why tried unread.old.items
         unread.new.items (has_key settled.old) (has_key settled.new)) }
 {
     let Due { place, key, .. } = due;
@@ -220,8 +220,8 @@ fn next_turn<P: Places>(
     next_due(alloc, places, settled, queue)
 }
 
-// The room for a try: as much again as was spent on tries of the key, and the first room, so that it
-// doubles from try to try; no more than is left.
+// The room for a try: as much again as was spent on tries of the key, and the first room, so that
+// it doubles from try to try; no more than is left.
 fn room_for(spent: u64, limit: u64, left: u64) -> u64
     requires { 0 < left }
     ensures some { 0 < result }
@@ -234,22 +234,22 @@ fn room_for(spent: u64, limit: u64, left: u64) -> u64
 }
 
 /// Walks on from a place that was read within the limit, and told this: reads its children, theirs,
-/// and so on. What the places say is put to `found`; the answer is the places that were met and left
-/// unread.
+/// and so on. What the places say is put to `found`; the answer is the places that were met and
+/// left unread.
 ///
 /// Of each key one place is read, or left unread. Other places with the key are passed over,
 /// whichever place told of them. One is left for the limit only where the whole limit is spent. One
 /// for which memory is wanting is left at once, and all its room counts as spent.
 ///
 /// All work together is at most `limit`. A key is first tried with room for an 8192nd part of it,
-/// and one. A place whose reading is cut waits again. What was spent on that belongs to its key: the
-/// next try of a place with the key has as much room as all before, and the first room, though never
-/// more than is left. So tries that are cut cost each key at most twice what reading one of its
-/// places exceeds, or three times where none of them is read, however often it is told.
+/// and one. A place whose reading is cut waits again. What was spent on it belongs to its key: the
+/// next try of a place with the key has as much room as all before, and the first room, though
+/// never more than is left. So tries that are cut cost each key at most twice what reading one of
+/// its places exceeds, or three times where none of them is read, however often it is told.
 ///
 /// A place that is told waits, even where its key was met before. So memory is in proportion to the
-/// number of children that all places told which were read, each as often as it was told, and to the
-/// keys of the places that were read, cut or left.
+/// number of children that all places told which were read, each as often as it was told, and to
+/// the keys of the places that were read, cut or left.
 ///
 /// What is new in `found` is said by a place to which a chain of children leads from the start.
 /// Where places with one key tell one thing, whenever they are read, something alike to all that a

@@ -21,7 +21,7 @@ const SAID: &[(u8, u8)] = &[(0, 10), (1, 11), (2, 12), (3, 13), (3, 23), (4, 14)
 /// Places that issued each other, and one that issued itself.
 const CIRCLE: &[(u8, u8)] = &[(0, 1), (1, 2), (2, 0), (2, 2), (2, 3), (3, 1), (1, 4)];
 
-static ROWS: [Row; 9] = [
+static ROWS: [Row; 11] = [
     (&[], &[], 255, 8, &[], &[]),
     (&[(0, 1)], SAID, 255, 80, &[10, 11], &[]),
     // of each key one is read, whichever told of it
@@ -41,6 +41,23 @@ static ROWS: [Row; 9] = [
     // one of 100 is tried with 1, 2, 4 .. 64, which is 127, before it is read
     (&[(0, 100), (0, 1)], SAID, 100, 228, &[10, 11], &[100]),
     (&[(0, 100), (0, 1)], SAID, 100, 229, &[10, 11], &[]),
+    // and no more often where it is told more often: then one of its key is left or read
+    (
+        &[(0, 100), (0, 100), (0, 100), (0, 1)],
+        SAID,
+        100,
+        228,
+        &[10, 11],
+        &[100],
+    ),
+    (
+        &[(0, 100), (0, 100), (0, 100), (0, 1)],
+        SAID,
+        100,
+        229,
+        &[10, 11],
+        &[],
+    ),
 ];
 
 /// Pairs of a place and a child, and the limit: from place 0 on, 2, 3 and 4 lead to the victim 5,

@@ -1,6 +1,6 @@
 -- The first was read, a turn comes, and the rest is left; what follows for all chains.
-use Rattle.std.proofs.Common.{◌≡◌, ◌⊎◌, inl, ℕ, Vec, ◌∷◌, ◌++◌, ◌+◌, ◌-◌, ◌<◌, ◌≤◌, List, length, arith}
-use Rattle.std.proofs.Common.{subst, sym, ap, ◌∙◌, length-append}
+use Rattle.std.proofs.Common.{◌≡◌, ◌⊎◌, inl, ℕ, Vec, ◌∷◌, ◌++◌, ◌+◌, ◌-◌, ◌<◌, ◌≤◌, List, length}
+use Rattle.std.proofs.Common.{arith, subst, sym, ap, ◌∙◌, length-append}
 use Rattle.std.proofs.lemmas.List.Sorted.{length_permutation}
 use Rattle.std.specs.BTreeMap.{BTreeMap}
 use Rattle.std.specs.declared.alloc.Global.{Global}
