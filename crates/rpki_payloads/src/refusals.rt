@@ -21,7 +21,7 @@ pub fn push_refusals(text: &mut String, found: &[AnchorFindings<'_>]) -> Result<
 fn push_found(text: &mut String, one: &AnchorFindings<'_>) -> Result<(), AllocError>
     ensures { Grows result text.old text.new (refusals_under one.now) }
 {
-    for refusal in one.found().refusals.by_line().values() {
+    for refusal in one.found().refusals.by_line.values() {
         push_refusal(text, refusal, one.name())?;
     }
     Ok(())

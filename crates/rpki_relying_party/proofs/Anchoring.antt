@@ -14,8 +14,8 @@ use Rattle.rpki_certs.specs.declared.issuer.IssuerError.{IssuerError}
 use Rattle.rpki_tal.specs.Tal.{Locator}
 use Rattle.rpki_tal.specs.Uri.{uri_text, https_first}
 use Rattle.rpki_tal.specs.declared.uri.TalUri.{TalUri}
-use Rattle.rpki_relying_party.specs.Anchors.{LacksFor, LacksFile, LackFiles, HasOther, LacksKeyAt}
-use Rattle.rpki_relying_party.specs.Anchors.{IsFirstWithKey, WhyNoKey, WhyNoAnchor, IsRefusalOf}
+use Rattle.rpki_relying_party.specs.Anchors.{FindsFor, LacksFor, LacksFile, LackFiles, HasOther}
+use Rattle.rpki_relying_party.specs.Anchors.{LacksKeyAt, IsFirstWithKey, WhyNoKey, WhyNoAnchor, IsRefusalOf}
 use Rattle.rpki_relying_party.specs.Anchors.{most_uris}
 use Rattle.rpki_relying_party.specs.Setting.{Setting}
 use Rattle.rpki_relying_party.specs.declared.anchor.AnchorFault.{AnchorFault}
@@ -105,12 +105,6 @@ module _ (finds : List ℕ → Result (List ℕ) NoFile → Type 0) (seen : List
         others = All-push (LacksFile finds) r.after u r.others (why, lacks);
       }))
 
--- The octets that are found for a URI, or why no file is.
-abbrev pub IsReadOf : (List ℕ → Result (List ℕ) NoFile → Type 0) → TalUri → Result (List ℕ) NoFile
-    → Type 0
-IsReadOf finds u found =
-    MatchResult found (λ octets. finds (uri_text u) (Ok octets)) (λ why. LacksFor finds why u)
-
 -- What was looked at so far has no certificate with this key, and no file for this reason, or some.
 pub record IsSearched (finds : List ℕ → Result (List ℕ) NoFile → Type 0) (key : List ℕ)
     (all left : List TalUri) (are_missing : Bool) (reason : NoFile) : Type 0 where
@@ -139,7 +133,7 @@ module _ (finds : List ℕ → Result (List ℕ) NoFile → Type 0) (key : List 
     all-other e f = (sought-all (LacksKeyAt finds key) all left e h.others, h.there f)
 
     module _ (rest : List TalUri) (u : TalUri) (e : left ≡ u ∷ rest)
-        (found : Result (List ℕ) NoFile) (reads : IsReadOf finds u found) where
+        (found : Result (List ℕ) NoFile) (reads : FindsFor finds u found) where
       -- for one more there is no file
       pub more-missing : (why : NoFile) → found ≡ Err why → (new : NoFile)
           → (reason ≡ Missing → new ≡ why) → (¬ (reason ≡ Missing) → new ≡ reason)
@@ -152,11 +146,11 @@ module _ (finds : List ℕ → Result (List ℕ) NoFile → Type 0) (key : List 
       }
         where
           none : LacksFor finds why u
-          none = subst (IsReadOf finds u) is reads
+          none = subst (FindsFor finds u) is reads
 
       module _ (octets : List ℕ) (is : found ≡ Ok octets) where
-        finds-octets : finds (uri_text u) (Ok octets)
-        finds-octets = subst (IsReadOf finds u) is reads
+        finds-octets : FindsFor finds u (Ok octets)
+        finds-octets = subst (FindsFor finds u) is reads
 
         -- one more is there, and has no certificate with the key
         pub more-others : ¬ BeginsWithCert octets (λ c. c.tbs.key ≡ key)

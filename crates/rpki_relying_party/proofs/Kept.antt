@@ -241,7 +241,7 @@ keeps-provider x h old new k e = record { here = k.here; others = others }
 -- ---- findings
 
 module _ (x : Payload) (h : Held) (old new : Found) (k : Keeps x h old.payloads new.payloads)
-    (r : new.refusals ≡ old.refusals) where
+    (r : new.refusals.by_line ≡ old.refusals.by_line) where
   payload-listed : (y : Payload) (g : Held) → ((y ≡ x) ⊎ ¬ (y ≡ x))
       → held_in new.payloads y ≡ Some g
       → Lists old (findings.Payload y g) ⊎ (findings.Payload x h ≡ findings.Payload y g)
@@ -295,15 +295,15 @@ module _ (x : Payload) (h : Held) (old new : Found) (k : Keeps x h old.payloads 
         w.2,
       )
 
-module _ (x : Refusal) (old new : Found) (k : KeepsRefusal x old.refusals new.refusals)
+module _ (x : Refusal) (old new : Found) (k : KeepsRefusal x old.refusals.by_line new.refusals.by_line)
     (p : new.payloads ≡ old.payloads) where
   refusal-listed : (q : Refusal)
       → ((refusal_line q ≡ refusal_line x) ⊎ ¬ (refusal_line q ≡ refusal_line x))
-      → get_by_text new.refusals (refusal_line q) ≡ Some q
+      → get_by_text new.refusals.by_line (refusal_line q) ≡ Some q
       → Lists old (findings.Refusal q) ⊎ (findings.Refusal x ≡ findings.Refusal q)
   refusal-listed q (inl s) e =
       inr (ap findings.Refusal (some-same x q (sym k.here
-      ∙ subst (λ (l : List ℕ). get_by_text new.refusals l ≡ Some q) s e)))
+      ∙ subst (λ (l : List ℕ). get_by_text new.refusals.by_line l ≡ Some q) s e)))
     where
       some-same : (a b : Refusal) → Some a ≡ Some b → a ≡ b
       some-same a b e = cc
@@ -313,7 +313,7 @@ module _ (x : Refusal) (old new : Found) (k : KeepsRefusal x old.refusals new.re
       → ((refusal_line q ≡ refusal_line x) ⊎ ¬ (refusal_line q ≡ refusal_line x))
       → HasAsLong old (findings.Refusal q) → HasAsLong new (findings.Refusal q)
   refusal-stays q (inl s) w =
-      (x, ap (λ (line : List ℕ). get_by_text new.refusals line) s ∙ k.here, sym s)
+      (x, ap (λ (line : List ℕ). get_by_text new.refusals.by_line line) s ∙ k.here, sym s)
   refusal-stays q (inr n) w = (w.0, k.others (refusal_line q) n ∙ w.1, w.2)
 
   pub keeps-refusal : KeepsFinding (findings.Refusal x) old new

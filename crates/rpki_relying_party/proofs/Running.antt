@@ -40,7 +40,7 @@ module _ (s : Setting) (tal : Locator) (limit : ℕ) where
         let h = reads (readings.Refused r cost) e in
         let w = h.0 in
         subst (λ (x : RunFault). WhyNoRun s tal limit x) (sym f)
-        (ca, w.0, w.1, anchor, w.2, w.3, w.4, cost, h.1, h.3)
+        (ca, w.0, w.1, anchor, w.2, w.3, w.4, (cost, h.1, h.3))
 
     -- and that it is too much work
     pub limit-of : reading ≡ readings.Cut → WhyNoRun s tal limit faults.Limit

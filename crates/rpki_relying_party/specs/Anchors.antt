@@ -29,10 +29,17 @@ abbrev pub HasHuge : (List ℕ → Result (List ℕ) NoFile → Type 0) → TalU
 HasHuge finds uri =
     (octets : List ℕ) × finds (uri_text uri) (Ok octets) × (2 ^ 64 ≤ length octets)
 
--- No file is found for the URI, for this reason. One of 2 ^ 64 octets or more counts as too large.
-abbrev pub LacksFor : (List ℕ → Result (List ℕ) NoFile → Type 0) → NoFile → TalUri → Type 0
-LacksFor finds why uri =
+-- What is found for the URI: octets, or why there are none. A file of 2 ^ 64 octets or more counts as
+-- too large.
+abbrev pub FindsFor : (List ℕ → Result (List ℕ) NoFile → Type 0) → TalUri
+    → Result (List ℕ) NoFile → Type 0
+FindsFor finds uri (Ok octets) = finds (uri_text uri) (Ok octets) × (length octets < 2 ^ 64)
+FindsFor finds uri (Err why) =
     finds (uri_text uri) (Err why) ⊎ ((why ≡ TooLarge) × HasHuge finds uri)
+
+-- No file is found for the URI, for this reason.
+abbrev pub LacksFor : (List ℕ → Result (List ℕ) NoFile → Type 0) → NoFile → TalUri → Type 0
+LacksFor finds why uri = FindsFor finds uri (Err why)
 
 -- No file is found for the URI.
 abbrev pub LacksFile : (List ℕ → Result (List ℕ) NoFile → Type 0) → TalUri → Type 0
@@ -42,12 +49,12 @@ LacksFile finds uri = (why : NoFile) × LacksFor finds why uri
 abbrev pub HasKeyAt : (List ℕ → Result (List ℕ) NoFile → Type 0) → List ℕ → TalUri → List ℕ
     → Type 0
 HasKeyAt finds key uri octets =
-    finds (uri_text uri) (Ok octets) × BeginsWithCert octets (λ c. c.tbs.key ≡ key)
+    FindsFor finds uri (Ok octets) × BeginsWithCert octets (λ c. c.tbs.key ≡ key)
 
 -- Octets are found for the URI that begin with no such certificate.
 abbrev pub HasOther : (List ℕ → Result (List ℕ) NoFile → Type 0) → List ℕ → TalUri → Type 0
 HasOther finds key uri =
-    (octets : List ℕ) × finds (uri_text uri) (Ok octets)
+    (octets : List ℕ) × FindsFor finds uri (Ok octets)
     × (¬ BeginsWithCert octets (λ c. c.tbs.key ≡ key))
 
 -- No file is found for the URI, or one that begins with no such certificate.

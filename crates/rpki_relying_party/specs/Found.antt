@@ -22,14 +22,14 @@ SaysLike x y = ⊥
 -- This was found: until then and by that object the payload is held, or the refusal is kept.
 abbrev pub Lists : Found → Finding → Type 0
 Lists found (findings.Payload x h) = held_in found.payloads x ≡ Some h
-Lists found (findings.Refusal r) = get_by_text found.refusals (refusal_line r) ≡ Some r
+Lists found (findings.Refusal r) = get_by_text found.refusals.by_line (refusal_line r) ≡ Some r
 
 -- The payload is held for as long, or a refusal with the same line is kept at this line.
 abbrev pub HasAsLong : Found → Finding → Type 0
 HasAsLong found (findings.Payload x h) =
     (k : Held) × (held_in found.payloads x ≡ Some k) × (stamp h.until ≤ stamp k.until)
 HasAsLong found (findings.Refusal r) =
-    (q : Refusal) × (get_by_text found.refusals (refusal_line r) ≡ Some q)
+    (q : Refusal) × (get_by_text found.refusals.by_line (refusal_line r) ≡ Some q)
     × (refusal_line q ≡ refusal_line r)
 
 -- The finding was put to what was found.

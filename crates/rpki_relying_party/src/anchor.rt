@@ -2,7 +2,7 @@
 
 ghost use Rattle.std.specs.Prelude.{◌≡◌, ◌≢◌, ◌≤◌, ◌↔◌, length, IfOk, IsTrue, MatchResult, Ok, Some};
 ghost use Rattle.rpki_certs.specs.Issuer.{BeginsWithCert, IsAnchored};
-ghost use Rattle.rpki_relying_party.specs.Anchors.{IsAnchorOf, LacksFor, WhyNoAnchor};
+ghost use Rattle.rpki_relying_party.specs.Anchors.{IsAnchorOf, FindsFor, WhyNoAnchor};
 ghost use Rattle.rpki_relying_party.specs.Anchors.{IsFirstWithKey, WhyNoKey};
 ghost use Rattle.rpki_relying_party.specs.Anchors.{IsRefusalOf, anchor_fault_text, most_uris};
 ghost use Rattle.rpki_relying_party.specs.Passes.{setting};
@@ -66,9 +66,7 @@ fn read_uri<R: Repository>(
     copy: &R,
     uri: &TalUri,
 ) -> Result<Result<Bytes, NoFile>, AllocError>
-    ensures { IfOk result (λ found. MatchResult found
-        (λ octets. R.finds copy.now (uri_text uri.now) (Ok octets))
-        (λ why. LacksFor (R.finds copy.now) why uri.now)) }
+    ensures { IfOk result (FindsFor (R.finds copy.now) uri.now) }
 {
     Ok(match copy.read(alloc, uri.as_str().as_bytes(), u64::MAX)? {
         Fetched::File(octets) => Ok(octets),

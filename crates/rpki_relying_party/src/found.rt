@@ -1,18 +1,14 @@
 //! What a validation run finds.
 
-ghost use Rattle.std.specs.Prelude.{◌≡◌, ℕ, List, None, IfOk, OnOk};
-ghost use Rattle.std.specs.BTreeMap.{get_by_text};
-ghost use Rattle.std.specs.String.{string_bytes};
+ghost use Rattle.std.specs.Prelude.{◌≡◌, IfOk, OnOk};
 ghost use Rattle.rpki_relying_party.specs.Found.{Lists, KeepsFinding, KeepsFindings};
-ghost use Rattle.rpki_relying_party.specs.Refusals.{KeepsRefusal, StandAtTheirLines};
-ghost use Rattle.rpki_relying_party.specs.Texts.{refusal_line};
 ghost use Rattle.rpki_relying_party.specs.declared.found.Finding.{Finding};
 
 use crate::cause::Cause;
 use crate::payload::{Held, Payload, Payloads};
+use crate::refusals::Refusals;
 use rpki_basics::Rsync;
 use std::alloc::{AllocError, Global};
-use std::collections::BTreeMap;
 use std::marker::Model;
 
 /// What is refused, a file or a publication point under the URI of its manifest; why; and the URI
@@ -68,93 +64,11 @@ pub enum Finding {
     Refusal(BoxedRefusal),
 }
 
-/// Refusals, each at its line, which says the URI, the cause, and the CA.
-#[derive(Drop)]
-pub struct Refusals {
-    by_line: BTreeMap<String, Refusal>,
-}
-
-impl Model for Refusals {
-    ghost use Rattle.std.specs.BTreeMap.{BTreeMap};
-    ghost use Rattle.std.specs.declared.alloc.Global.{Global};
-    ghost use Rattle.std.specs.declared.string.String.{String};
-    ghost use Rattle.rpki_relying_party.specs.Refusals.{StandAtTheirLines};
-    ghost use Rattle.rpki_relying_party.specs.declared.found.Refusal.{Refusal};
-
-    ghost Value = { BTreeMap (String Global) Refusal };
-
-    ghost view = { λ r. r.by_line };
-
-    ghost invariant = { λ r. StandAtTheirLines r.by_line };
-}
-
 /// What was found: payloads and refusals, each once.
 #[derive(Drop)]
 pub struct Found {
     pub payloads: Payloads,
     pub refusals: Refusals,
-}
-
-// The line of a refusal.
-fn line_of(alloc: Global, refusal: &Refusal) -> Result<String, AllocError>
-    ensures { IfOk result (λ line. string_bytes line ≡ refusal_line refusal.now) }
-{
-    let uri = refusal.uri.as_str();
-    let cause = &refusal.cause;
-    let under = refusal.under.as_str();
-    format!(in alloc; "{uri}: {cause} (under {under})")
-}
-
-// Keeps a refusal at its line.
-fn keep_refusal(
-    alloc: Global,
-    refusals: &mut BTreeMap<String, Refusal>,
-    refusal: Refusal,
-) -> Result<(), AllocError>
-    ensures keeps { OnOk result (KeepsRefusal refusal refusals.old refusals.new) }
-    ensures lines { StandAtTheirLines refusals.old → StandAtTheirLines refusals.new }
-{
-    match line_of(alloc, &refusal) {
-        Err(error) => {
-            drop(refusal);
-            Err(error)
-        }
-        Ok(line) => match refusals.insert(line, refusal) {
-            Err(refused) => {
-                drop(refused);
-                Err(AllocError)
-            }
-            Ok(replaced) => {
-                drop(replaced);
-                Ok(())
-            }
-        },
-    }
-}
-
-impl Refusals {
-    /// No refusals.
-    pub fn new(alloc: Global) -> Refusals
-        ensures { (line : List ℕ) → get_by_text result line ≡ None }
-    {
-        let by_line = BTreeMap::new(alloc);
-        Refusals { by_line }
-    }
-
-    /// The refusals by their lines.
-    pub fn by_line(&self) -> &BTreeMap<String, Refusal>
-        ensures same { result.now ≡ self.now }
-        ensures lines { StandAtTheirLines result.now }
-    {
-        &self.by_line
-    }
-
-    /// Keeps a refusal.
-    pub(crate) fn keep(&mut self, alloc: Global, refusal: Refusal) -> Result<(), AllocError>
-        ensures { OnOk result (KeepsRefusal refusal self.old self.new) }
-    {
-        keep_refusal(alloc, &mut self.by_line, refusal)
-    }
 }
 
 impl Found {

@@ -185,8 +185,6 @@ pub(crate) fn find_crl<R: Repository, C: Crypto>(
         drop(crl);
         return Err(Stop::Refused(Cause::List(fault)));
     }
-    match keep_list(alloc, uri, crl) {
-        Err(_) => Err(Stop::Memory),
-        Ok(list) => Ok(list),
-    }
+    let list = keep_list(alloc, uri, crl)?;
+    Ok(list)
 }

@@ -15,7 +15,7 @@ refused_line name r =
 
 -- the lines of what is refused under one name, in the order of what they say
 abbrev pub refusals_under : FoundUnder → List ℕ
-refusals_under f = flat_map (refused_line f.name) (values f.found.refusals)
+refusals_under f = flat_map (refused_line f.name) (values f.found.refusals.by_line)
 
 -- a line for each refusal, name by name
 abbrev pub refusals_text : List FoundUnder → List ℕ

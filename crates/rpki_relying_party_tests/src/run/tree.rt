@@ -109,11 +109,11 @@ fn are_providers(found: &Found) -> Result<bool, Fail> {
 
 fn are_refused(found: &Found) -> bool {
     for line in &REFUSED {
-        if !found.refusals.by_line().contains_key(*line) {
+        if !found.refusals.by_line.contains_key(*line) {
             return false;
         }
     }
-    found.refusals.by_line().len() == REFUSED.len()
+    found.refusals.by_line.len() == REFUSED.len()
 }
 
 // Runs over the tree within a limit: whether all was found, and nothing left unread.

@@ -7,6 +7,5 @@ use Rattle.rpki_relying_party.proofs.found.Found.refuse.Goals as goal
 pub returns : goal.returns
 returns c =
     let old = c.args.self.now in
-    let r = c.keep in
-    let new : Found = record { payloads = old.payloads; refusals = r.new.refusals } in
-    onward r.result (λ k. keeps-refusal c.args.refusal old new k refl) r.ensures
+    let new : Found = record { payloads = old.payloads; refusals = c.keep.new.self } in
+    onward c.keep.result (λ k. keeps-refusal c.args.refusal old new k refl) c.keep.ensures

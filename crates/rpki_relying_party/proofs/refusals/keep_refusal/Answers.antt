@@ -8,7 +8,7 @@ use Rattle.std.specs.declared.string.String.{String}
 use Rattle.rpki_relying_party.specs.Refusals.{KeepsRefusal}
 use Rattle.rpki_relying_party.specs.declared.found.Refusal.{Refusal}
 use Rattle.rpki_relying_party.proofs.Kept.{puts-refusal, lines-stay}
-use Rattle.rpki_relying_party.proofs.found.keep_refusal.Goals as goal
+use Rattle.rpki_relying_party.proofs.refusals.keep_refusal.Goals as goal
 
 pub returns-in-Ok-insert-clause-keeps : goal.returns-in-Ok-insert-clause-keeps
 returns-in-Ok-insert-clause-keeps c =
@@ -17,3 +17,8 @@ returns-in-Ok-insert-clause-keeps c =
     let new = c.insert.new.self in
     puts-refusal c.args.refusal line old new c.in-Ok.ensures
     (btree_map_updates_text line old new (Some c.args.refusal) c.in-Ok-insert.ensures.updates)
+
+pub returns-in-Ok-insert-clause-lines : goal.returns-in-Ok-insert-clause-lines
+returns-in-Ok-insert-clause-lines c =
+    lines-stay c.args.refusal c.args.refusals.now c.insert.new.self
+    (returns-in-Ok-insert-clause-keeps c)
