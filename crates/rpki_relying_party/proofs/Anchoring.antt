@@ -12,7 +12,7 @@ use Rattle.rpki_certs.specs.Cert.{Certificate, KeptCertificate, CertForm}
 use Rattle.rpki_certs.specs.Issuer.{BeginsWithCert, IsAnchored}
 use Rattle.rpki_certs.specs.declared.issuer.IssuerError.{IssuerError}
 use Rattle.rpki_tal.specs.Tal.{Locator}
-use Rattle.rpki_tal.specs.Uri.{uri_text, https_first}
+use Rattle.rpki_tal.specs.Uri.{https_first}
 use Rattle.rpki_tal.specs.declared.uri.TalUri.{TalUri}
 use Rattle.rpki_relying_party.specs.Anchors.{FindsFor, LacksFor, LacksFile, LackFiles, HasOther}
 use Rattle.rpki_relying_party.specs.Anchors.{LacksKeyAt, IsFirstWithKey, WhyNoKey, WhyNoAnchor, IsRefusalOf}

@@ -13,11 +13,9 @@ use Rattle.rpki_relying_party.specs.Costs.{FileStarts, LostCosts}
 use Rattle.rpki_relying_party.specs.Costs.{FilesCost, FilesLost, FilesStart, ListCosts, ListStarts}
 use Rattle.rpki_relying_party.specs.Costs.{ListedCosts, ListedStarts, PointCosts, PointStarts}
 use Rattle.rpki_relying_party.specs.Costs.{OnPlace, PlaceCosts, PlaceExceeds}
-use Rattle.rpki_relying_party.specs.Lacks.{IsLostFile}
 use Rattle.rpki_relying_party.specs.Point.{AreOnce, IsListFile}
 use Rattle.rpki_relying_party.specs.Same.{FindsOne}
 use Rattle.rpki_relying_party.specs.Setting.{Setting}
-use Rattle.rpki_relying_party.specs.declared.cause.Cause.{Cause}
 use Rattle.rpki_relying_party.specs.declared.copy.NoFile.{NoFile}
 use Rattle.rpki_relying_party.specs.declared.place.Place.{Place}
 use Rattle.rpki_relying_party.proofs.OneChild.{one-ca}

@@ -1,5 +1,5 @@
 -- What a validation run found.
-use Rattle.std.specs.Prelude.{◌≡◌, ◌≤◌, ◌⊎◌, ℕ, List, Some, All, Contains}
+use Rattle.std.specs.Prelude.{◌≡◌, ◌≤◌, ◌⊎◌, List, Some, All, Contains}
 use Rattle.std.specs.BTreeMap.{get_by_text}
 use Rattle.rpki_basics.specs.Moment.{stamp}
 use Rattle.rpki_relying_party.specs.Payload.{held_in}

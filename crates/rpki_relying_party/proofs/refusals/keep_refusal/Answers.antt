@@ -1,12 +1,7 @@
 -- The refusal stands at its line.
 use Rattle.std.proofs.Common.{Some}
 use Rattle.std.proofs.lemmas.Map.Text.{btree_map_updates_text}
-use Rattle.std.specs.BTreeMap.{BTreeMap}
 use Rattle.std.specs.String.{string_bytes}
-use Rattle.std.specs.declared.alloc.Global.{Global}
-use Rattle.std.specs.declared.string.String.{String}
-use Rattle.rpki_relying_party.specs.Refusals.{KeepsRefusal}
-use Rattle.rpki_relying_party.specs.declared.found.Refusal.{Refusal}
 use Rattle.rpki_relying_party.proofs.Kept.{puts-refusal, lines-stay}
 use Rattle.rpki_relying_party.proofs.refusals.keep_refusal.Goals as goal
 
