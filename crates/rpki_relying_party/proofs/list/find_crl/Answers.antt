@@ -44,8 +44,8 @@ returns-in-Err g c =
     c.in_ok-crl.crl (c.in_ok-crl.ensures.0) (c.in_ok-crl.ensures.1) c.in-Err.fault
     c.in-Err.ensures
 
-pub returns-in-Ok : goal.returns-in-Ok
-returns-in-Ok g c =
+pub returns : goal.returns
+returns g c =
     is-list (setting g.R.Repository.finds g.C.Crypto.digest_of g.C.Crypto.is_signed
     c.args.pass.now) c.args.ca.now c.args.folder.now
     c.args.manifest.now.signer.cert.certificate c.args.manifest.now.content c.in-Some.uri.now
