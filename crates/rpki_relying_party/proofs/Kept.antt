@@ -27,11 +27,12 @@ use Rattle.rpki_relying_party.specs.declared.payload.Held.{Held}
 use Rattle.rpki_relying_party.specs.declared.payload.Origin.{Origin}
 use Rattle.rpki_relying_party.specs.declared.payload.Payload.{Payload}
 use Rattle.rpki_relying_party.specs.declared.payload.Payload.TheVariants as payloads
-use Rattle.rpki_relying_party.specs.declared.payload.Payloads.{Payloads}
+use Rattle.rpki_relying_party.specs.declared.payloads.Payloads.{Payloads}
 use Rattle.rpki_relying_party.specs.declared.payload.Provider.{Provider}
 use Rattle.rpki_relying_party.specs.Found.{Lists, HasAsLong, KeepsFinding}
 use Rattle.rpki_relying_party.specs.Found.{KeepsFindings}
-use Rattle.rpki_relying_party.specs.Payload.{origin_order, provider_order, held_in, ends_before}
+use Rattle.rpki_relying_party.specs.Orders.{origin_order, provider_order}
+use Rattle.rpki_relying_party.specs.Payload.{held_in, ends_before}
 use Rattle.rpki_relying_party.specs.Payload.{longer, KeepsLonger, Keeps}
 use Rattle.rpki_relying_party.specs.Refusals.{KeepsRefusal, StandAtTheirLines}
 use Rattle.rpki_relying_party.specs.Texts.{refusal_line}

@@ -9,6 +9,7 @@ pub mod Under
 pub mod Kind
 pub mod Point
 pub mod Lacks
+pub mod Orders
 pub mod Payload
 pub mod Tells
 pub mod Costs

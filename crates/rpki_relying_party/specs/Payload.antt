@@ -2,17 +2,18 @@
 use Rattle.std.specs.Prelude.{◌≡◌, ℕ, Bool, true, false, Option, None, Some, unwrap_or, nat_lt}
 use Rattle.std.specs.Prelude.{if◌then◌else◌}
 use Rattle.std.specs.BTreeMap.{BTreeMap, get}
-use Rattle.std.specs.Ordering.{is_eq, nat_cmp, ordering_then}
+use Rattle.std.specs.Ordering.{is_eq}
 use Rattle.std.specs.declared.cmp.Ordering.{Ordering}
 use Rattle.rpki_basics.specs.Moment.{Moment, stamp}
 use Rattle.rpki_resources.specs.declared.family.AddressFamily.{AddressFamily}
 use Rattle.rpki_resources.specs.declared.family.AddressFamily.TheVariants.{Ipv4, Ipv6}
 use Rattle.rpki_routes.specs.declared.roa.address.RouteOrigin.{RouteOrigin}
+use Rattle.rpki_relying_party.specs.Orders.{origin_order, provider_order}
 use Rattle.rpki_relying_party.specs.declared.payload.Held.{Held}
 use Rattle.rpki_relying_party.specs.declared.payload.Origin.{Origin}
 use Rattle.rpki_relying_party.specs.declared.payload.Payload.{Payload}
 use Rattle.rpki_relying_party.specs.declared.payload.Payload.TheVariants as payloads
-use Rattle.rpki_relying_party.specs.declared.payload.Payloads.{Payloads}
+use Rattle.rpki_relying_party.specs.declared.payloads.Payloads.{Payloads}
 use Rattle.rpki_relying_party.specs.declared.payload.Provider.{Provider}
 
 -- The number of the family in the registry of address families (RFC 3779, section 2.2.3.3).
@@ -30,18 +31,6 @@ origin_key o = record {
   max_len = unwrap_or o.prefix.max_len o.prefix.prefix.len;
   asn = o.asn;
 }
-
--- the order of origins: by prefix, then by AS
-abbrev pub origin_order : Origin → Origin → Ordering
-origin_order a b =
-    ordering_then (nat_cmp a.family b.family) (ordering_then (nat_cmp a.addr b.addr)
-    (ordering_then (nat_cmp a.len b.len) (ordering_then (nat_cmp a.max_len b.max_len)
-    (nat_cmp a.asn b.asn))))
-
--- the order of providers: by customer
-abbrev pub provider_order : Provider → Provider → Ordering
-provider_order a b =
-    ordering_then (nat_cmp a.customer b.customer) (nat_cmp a.provider b.provider)
 
 -- what is held for a payload
 abbrev pub held_in : Payloads → Payload → Option Held

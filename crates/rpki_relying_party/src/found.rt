@@ -5,7 +5,8 @@ ghost use Rattle.rpki_relying_party.specs.Found.{Lists, KeepsFinding, KeepsFindi
 ghost use Rattle.rpki_relying_party.specs.declared.found.Finding.{Finding};
 
 use crate::cause::Cause;
-use crate::payload::{Held, Payload, Payloads};
+use crate::payload::{Held, Payload};
+use crate::payloads::Payloads;
 use crate::refusals::Refusals;
 use rpki_basics::Rsync;
 use std::alloc::{AllocError, Global};

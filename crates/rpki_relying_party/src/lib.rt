@@ -15,6 +15,7 @@ mod manifest;
 mod memory;
 mod pass;
 mod payload;
+mod payloads;
 mod place;
 mod places;
 mod point;
@@ -33,7 +34,8 @@ pub use folder::{FolderCopy, Folders, MAX_FILE, SystemFolders, is_below, locator
 pub use found::{BoxedRefusal, Finding, Found, Refusal};
 pub use locator::{RunFault, refuse_unread, run_under};
 pub use pass::Pass;
-pub use payload::{Held, Origin, Payload, Payloads, Provider};
+pub use payload::{Held, Origin, Payload, Provider};
+pub use payloads::Payloads;
 pub use place::Place;
 pub use places::{Places, Reading, Told};
 pub use refusals::Refusals;

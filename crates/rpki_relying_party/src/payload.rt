@@ -1,10 +1,12 @@
 //! What valid objects say.
 
 ghost use Rattle.std.specs.Prelude.{◌≡◌, OnOk, None, option_map};
+ghost use Rattle.std.specs.BTreeMap.{IsOrdered};
 ghost use Rattle.rpki_relying_party.specs.Payload.{family_number, origin_key, ends_before};
 ghost use Rattle.rpki_relying_party.specs.Payload.{held_in, KeepsLonger, Keeps};
 ghost use Rattle.rpki_relying_party.specs.declared.payload.Payload.{Payload};
 
+use crate::payloads::Payloads;
 use rpki_basics::{Rsync, Time};
 use rpki_resources::{AddressFamily, Asn, MaxLenPrefix};
 use rpki_routes::RouteOrigin;
@@ -43,13 +45,6 @@ pub enum Payload {
 pub struct Held {
     pub until: Time,
     pub object: Rsync,
-}
-
-/// Payloads, each once: of several objects that say it, the one that holds longest.
-#[derive(Drop)]
-pub struct Payloads {
-    pub origins: BTreeMap<Origin, Held>,
-    pub providers: BTreeMap<Provider, Held>,
 }
 
 // The number of a family in the registry of address families (RFC 3779, section 2.2.3.3).
@@ -106,7 +101,8 @@ fn keep_longer<K: Ord + Drop>(
     key: K,
     held: Held,
 ) -> Result<(), AllocError>
-    ensures { OnOk result (KeepsLonger K.cmp key held map.old map.new) }
+    ensures keeps { OnOk result (KeepsLonger K.cmp key held map.old map.new) }
+    ensures order { IsOrdered K.cmp map.old → IsOrdered K.cmp map.new }
 {
     if !ends_before(map.get(&key), held.until) {
         drop(held);

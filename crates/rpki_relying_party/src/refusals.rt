@@ -1,8 +1,10 @@
 //! Refusals by their lines.
 
+ghost use Rattle.std.proofs.Props.{props};
 ghost use Rattle.std.specs.Prelude.{◌≡◌, ℕ, List, None, IfOk, OnOk};
-ghost use Rattle.std.specs.BTreeMap.{get_by_text};
+ghost use Rattle.std.specs.BTreeMap.{get_by_text, IsOrdered};
 ghost use Rattle.std.specs.String.{string_bytes};
+ghost use Rattle.rpki_relying_party.specs.Orders.{line_order};
 ghost use Rattle.rpki_relying_party.specs.Refusals.{KeepsRefusal, StandAtTheirLines};
 ghost use Rattle.rpki_relying_party.specs.Texts.{refusal_line};
 
@@ -15,6 +17,7 @@ use std::collections::BTreeMap;
 pub struct Refusals {
     pub by_line: BTreeMap<String, Refusal>,
     pub ghost lines: { StandAtTheirLines by_line },
+    pub ghost in_order: { IsOrdered line_order by_line } by { Prim.hlevel props },
 }
 
 // The line of a refusal.
@@ -35,6 +38,7 @@ fn keep_refusal(
 ) -> Result<(), AllocError>
     ensures keeps { OnOk result (KeepsRefusal refusal refusals.old refusals.new) }
     ensures lines { StandAtTheirLines refusals.old → StandAtTheirLines refusals.new }
+    ensures order { IsOrdered line_order refusals.old → IsOrdered line_order refusals.new }
 {
     match line_of(alloc, &refusal) {
         Err(error) => {
