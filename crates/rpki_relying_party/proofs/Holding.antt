@@ -304,15 +304,17 @@ module _ (s : Setting) (t : Moment) (later : stamp s.now ≤ stamp t) where
       let first = child-still start c (h.0) (rest.1) in
       ((first.0, rest.0), first.1)
 
--- What is published below a start is published at each later moment until which it is held, and the
--- start holds then.
-pub below-still : (s : Setting) (start : Place) (x : Payload) (h : Held) (t : Moment)
-    → IsPayloadBelow s start x h → stamp s.now ≤ stamp t → stamp t ≤ stamp h.until
-    → IsPayloadBelow (at_moment s t) start x h × (stamp t ≤ stamp start.until)
-below-still s start x h t b later l =
-    let p = payload-still s t later (b.1) x h (b.3) l in
-    let chain = chain-still s t later (b.0) start (b.1) (b.2) (p.1) in
-    ((b.0, b.1, chain.0, p.0), chain.1)
+-- What is published at the end of a chain is published there at each later moment until which it is
+-- held, and the start holds then.
+pub below-still : (s : Setting) (start place : Place) (path : List Place) (x : Payload) (h : Held)
+    (t : Moment) → Leads (PublishesCa s) start path place → PublishesPayload s place x h
+    → stamp s.now ≤ stamp t → stamp t ≤ stamp h.until
+    → Leads (PublishesCa (at_moment s t)) start path place
+    × PublishesPayload (at_moment s t) place x h × (stamp t ≤ stamp start.until)
+below-still s start place path x h t leads published later l =
+    let p = payload-still s t later place x h published l in
+    let chain = chain-still s t later path start place leads (p.1) in
+    (chain.0, p.0, chain.1)
 
 -- ---- trust anchors
 

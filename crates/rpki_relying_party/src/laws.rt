@@ -9,7 +9,7 @@ ghost use Rattle.rpki_relying_party.specs.Anchors.{IsAnchorOf};
 ghost use Rattle.rpki_relying_party.specs.Costs.{PlaceCosts, PlaceExceeds};
 ghost use Rattle.rpki_relying_party.specs.Found.{SaysLike};
 ghost use Rattle.rpki_relying_party.specs.Passes.{setting};
-ghost use Rattle.rpki_relying_party.specs.Paths.{IsSaid, TellsOne};
+ghost use Rattle.rpki_relying_party.specs.Paths.{IsSaid, Leads, TellsOne};
 ghost use Rattle.rpki_relying_party.specs.Place.{AreAlike, key_of};
 ghost use Rattle.rpki_relying_party.specs.Published.{IsPayloadBelow, PublishesPayload, PublishesCa};
 ghost use Rattle.rpki_relying_party.specs.Published.{FindsPublished, at_moment};
@@ -103,14 +103,19 @@ pub fn work_is_one_number<R: Repository, C: Crypto>(pass: &Pass<'_, R, C>)
         → m < n }
 {}
 
-/// A payload that is published below the start is published there at each moment from now until its
-/// hold ends, where the copy stays the same; and until then the start holds too.
+/// A payload to which a chain of CAs leads from the start is published at the end of the same chain at
+/// each moment from now until its hold ends, where the copy stays the same, by an object with the same
+/// URI: by the same octets, if the copy finds one thing for each URI. Until then the start holds too.
 pub fn payloads_hold<R: Repository, C: Crypto>(_pass: &Pass<'_, R, C>)
-    ensures { (start : Place) (x : Payload) (h : Held) (t : Moment)
-        → IsPayloadBelow (setting R.finds C.digest_of C.is_signed _pass.now) start x h
+    ensures { (start place : Place) (path : List Place) (x : Payload) (h : Held) (t : Moment)
+        → Leads (PublishesCa (setting R.finds C.digest_of C.is_signed _pass.now)) start path place
+        → PublishesPayload (setting R.finds C.digest_of C.is_signed _pass.now) place x h
         → stamp _pass.now.moment ≤ stamp t
         → stamp t ≤ stamp h.until
-        → IsPayloadBelow (at_moment (setting R.finds C.digest_of C.is_signed _pass.now) t) start x h
+        → Leads (PublishesCa (at_moment (setting R.finds C.digest_of C.is_signed _pass.now) t))
+        start path place
+        × PublishesPayload (at_moment (setting R.finds C.digest_of C.is_signed _pass.now) t) place
+        x h
         × (stamp t ≤ stamp start.until) }
 {}
 
