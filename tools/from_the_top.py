@@ -92,9 +92,13 @@ PROMISES = [
         "A payload of `rpki_verify payloads`",
         "What a run finds is said below a trust anchor of its locator; a payload is said there by a "
         "good object in a good publication point to which a chain of valid, unrevoked certificates "
-        "leads; and what is printed is the report of the runs under the locators.",
+        "leads. Over a copy that finds one thing for each URI, each payload that is published so is "
+        "found, but for those below a place that was left unread. Until a payload expires, it is "
+        "published so. What is printed is the report of the runs under the locators.",
         [
             ("rpki_relying_party", "laws", "payloads_are_said", ["ensures"]),
+            ("rpki_relying_party", "laws", "publications_are_found", ["ensures"]),
+            ("rpki_relying_party", "laws", "payloads_hold", ["ensures"]),
             ("rpki_relying_party", "locator", "run_under", ["sound", "complete", "refused", "reads"]),
             ("rpki_payloads", "party", "RelyingParty for FolderParty", ["says"]),
         ],

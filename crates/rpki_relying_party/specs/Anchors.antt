@@ -45,7 +45,8 @@ LacksFor finds why uri = FindsFor finds uri (Err why)
 abbrev pub LacksFile : (List ℕ → Result (List ℕ) NoFile → Type 0) → TalUri → Type 0
 LacksFile finds uri = (why : NoFile) × LacksFor finds why uri
 
--- These octets are found for the URI, and begin with a certificate that has this key.
+-- These octets are found for the URI, and begin with a certificate that has this key. That further
+-- octets may follow it is this project's own rule.
 abbrev pub HasKeyAt : (List ℕ → Result (List ℕ) NoFile → Type 0) → List ℕ → TalUri → List ℕ
     → Type 0
 HasKeyAt finds key uri octets =

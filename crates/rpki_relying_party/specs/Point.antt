@@ -67,7 +67,8 @@ abbrev pub Has : Setting → UriAndHash → List ℕ → Type 0
 Has s file octets = s.finds file.0 (Ok octets) × (s.digest octets ≡ file.1)
 
 -- The octets begin with a manifest that is good under the CA: this is its content, and this the
--- certificate of its signer.
+-- certificate of its signer. That a file may have a type which is not registered (section 4.2.2) is
+-- this project's own rule.
 abbrev pub IsManifestIn : Setting → Validated → List ℕ → Certificate → Manifest → Type 0
 IsManifestIn s ca octets signer manifest =
     HasGood s manifest_kind (ManifestForm Any Der) ca octets (λ o.
@@ -80,8 +81,8 @@ AreOnce files = AllPairs (λ f g. f.0 ≢ g.0) files
 
 -- The copy has for the URI a manifest that is good under the CA and current (sections 6.2 and 6.3),
 -- and that lists no name twice (section 4.2.1): no two of its files have one URI below the folder.
--- Two rules are this project's own: the numbers of earlier manifests are not looked at (section
--- 4.2.1), and no earlier version of a point is used (section 6.6).
+-- Two rules are this project's own: the number and thisUpdate of earlier manifests are not looked at
+-- (section 4.2.1), and no earlier version of a point is used (section 6.6).
 pub record IsManifestAt (s : Setting) (ca : Validated) (folder uri : List ℕ) (signer : Certificate)
     (manifest : Manifest) : Type 0 where
   pub octets : List ℕ
@@ -98,7 +99,8 @@ pub record IsListFile (folder : List ℕ) (signer : Certificate) (manifest : Man
   pub listed : Contains (uris_of folder manifest.files) file
 
 -- The file that the certificate of the manifest names as its revocation list, with this URI, is a
--- revocation list of the CA, and does not revoke that certificate.
+-- revocation list of the CA, and does not revoke that certificate. That no other list of the CA is
+-- looked for, with a greater number (RFC 6487, section 5), is this project's own rule.
 pub record IsListAt (s : Setting) (ca : Validated) (folder : List ℕ) (signer : Certificate)
     (manifest : Manifest) (uri : List ℕ) (list : RevocationList) : Type 0 where
   pub hash : List ℕ

@@ -228,7 +228,8 @@ FilesTell s ca list_uri list until under (file ∷ files) said children =
     × FilesTell s ca list_uri list until under files y.said y.children
     × (said ≡ x.said ++ y.said) × (children ≡ x.children ++ y.children)
 
--- The certificate of the CA names no folder or no manifest (RFC 6487, section 4.8.8.1).
+-- The certificate of the CA names no folder or no manifest (RFC 6487, section 4.8.8.1). No good
+-- certificate of a CA is such; where one were, it would tell nothing.
 abbrev pub NamesNoPoint : Validated → Type 0
 NamesNoPoint ca =
     (ca.cert.certificate.tbs.extensions.locations.subject.ca_repository ≡ None)
