@@ -29,9 +29,6 @@ module _ {P X : Type 0} (tells : P → List X → List P → Type 0) (costs exce
   abbrev start : P
   start = first.place
 
-  abbrev places : List P
-  places = places_read w.reads ++ places_left unread
-
   pub told : (r : Read P X) → Contains w.reads r → tells r.place r.said r.children
   told r c = All-contains (λ r. tells r.place r.said r.children) w.reads r w.told c
 
@@ -62,16 +59,16 @@ module _ {P X : Type 0} (tells : P → List X → List P → Type 0) (costs exce
     ))
   ]
 
+  -- one with the key of this place was read, or was left
   abbrev Known : P → Type 0
-  Known q = HasKey key places (key q)
+  Known q = HasKey key (places_read w.reads) (key q) ⊎ HasKey key (places_left unread) (key q)
 
   begun : Known start
-  begun = (
+  begun = inl (
     start,
-    Contains-append_left (places_read w.reads) (places_left unread) start
-        (contains-mapped (λ (r : Read P X). r.place) w.reads first
+    contains-mapped (λ (r : Read P X). r.place) w.reads first
         (subst (λ (l : List (Read P X)). Contains l first) (sym (w.begun.1))
-        (contains-first first (w.begun.0)))),
+        (contains-first first (w.begun.0))),
     refl,
   )
 
@@ -81,12 +78,10 @@ module _ {P X : Type 0} (tells : P → List X → List P → Type 0) (costs exce
 
   read-or-left : (q : P) (path : List P) → Known q
       → HasRead q ⊎ Passes key (places_left unread) q path
-  read-or-left q path k =
-      elim (Contains-append_cases (places_read w.reads) (places_left unread) (k.0) (k.1)) [
-        | inl done ↦ (let r = mapped-from (λ (r : Read P X). r.place) w.reads (k.0) done in
-            inl (r.0, r.1, ap key (r.2) ∙ k.2))
-        | inr left ↦ inr (q, k.0, contains-first q path, left, sym (k.2))
-      ]
+  read-or-left q path (inl k) =
+      let r = mapped-from (λ (r : Read P X). r.place) w.reads (k.0) (k.1) in
+      inl (r.0, r.1, ap key (r.2) ∙ k.2)
+  read-or-left q path (inr k) = inr (q, k.0, contains-first q path, k.1, sym (k.2))
 
   further : (q c : P) (path : List P) (p : P)
       → HasRead p ⊎ Passes key (places_left unread) c path
@@ -94,15 +89,20 @@ module _ {P X : Type 0} (tells : P → List X → List P → Type 0) (costs exce
   further q c path p (inl r) = inl r
   further q c path p (inr h) = inr (h.0, h.1, contains-rest q (h.0) (c ∷ path) (h.2), h.3, h.4)
 
+  abbrev Closed : P → Type 0
+  Closed c = HasKey key (places_read w.reads) (key c) ⊎ Contains (places_left unread) c
+
   -- Of any children, each of which is told where a place with its parent's key is read.
   module _ (child : P → P → Type 0)
       (is_told : (p c : P) (r : HasRead p) → child p c → HasKey key r.0.children (key c)) where
     known-child : (q c : P) → HasRead q → child q c → Known c
     known-child q c r h =
         let d = is_told q c r h in
-        subst (HasKey key (places_read w.reads ++ places_left unread)) (d.2)
-        (All-contains (λ b. Known b) r.0.children (d.0)
-        (All-contains (λ r. All (λ b. Known b) r.children) w.reads (r.0) w.closed (r.1)) (d.1))
+        elim (All-contains Closed r.0.children (d.0)
+        (All-contains (λ r. All Closed r.children) w.reads (r.0) w.closed (r.1)) (d.1)) [
+          | inl done ↦ inl (subst (HasKey key (places_read w.reads)) (d.2) done)
+          | inr left ↦ inr (d.0, left, d.2)
+        ]
 
     along : (path : List P) (q p : P) → Known q → Leads child q path p
         → HasRead p ⊎ Passes key (places_left unread) q path

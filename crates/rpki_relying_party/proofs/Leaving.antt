@@ -9,8 +9,7 @@ use Rattle.std.specs.BTreeMap.{get_by_text}
 use Rattle.std.specs.Map.{update}
 use Rattle.std.specs.Option.{option_eq}
 use Rattle.std.proofs.lemmas.List.{take_more, length-take}
-use Rattle.std.proofs.lemmas.List.Elements.{Contains-append_cases, Contains-append_left}
-use Rattle.std.proofs.lemmas.List.Elements.{Contains-append_right}
+use Rattle.std.proofs.lemmas.List.Elements.{Contains-append_left, Contains-append_right}
 use Rattle.std.proofs.lemmas.List.Sums.{sum_by_more, count_by-le-length}
 use Rattle.std.proofs.lemmas.Slice.Eq.{bytes_eq-Decides}
 use Rattle.rpki_relying_party.specs.Runs.{lister_of, is_limit, is_limited, limited_under}
@@ -21,7 +20,7 @@ use Rattle.rpki_relying_party.specs.declared.found.Found.{Found}
 use Rattle.rpki_relying_party.specs.declared.place.Place.{Place}
 use Rattle.rpki_relying_party.specs.declared.walk.Why.{Why}
 use Rattle.rpki_relying_party.specs.declared.walk.Why.TheVariants.{Limit, Memory}
-use Rattle.rpki_relying_party.proofs.Lists.{contains-first, cons-cases, nothing}
+use Rattle.rpki_relying_party.proofs.Lists.{contains-first, push-cases}
 
 -- ---- counting
 
@@ -136,12 +135,9 @@ seen-next counts unread i within u e first old new before one = subst
     ∙ ap (λ (v : Left Place). seen ++ v ∷ []) (sym e)))
     (keeps-both (IsSeen counts seen) (IsRefusalFor counts u) (IsSeen counts (seen ++ u ∷ []))
     first old new before one
-    (λ x p. elim (Contains-append_cases seen (u ∷ []) (p.0) (p.1)) [
+    (λ x p. elim (push-cases seen u (p.0) (p.1)) [
       | inl there ↦ inl (p.0, there, p.2)
-      | inr here ↦ elim (cons-cases u (p.0) [] here) [
-        | inl same ↦ inr (subst (λ (v : Left Place). IsRefusalFor counts v x) (sym same) (p.2))
-        | inr other ↦ absurd (nothing (p.0) other)
-      ]
+      | inr same ↦ inr (subst (λ (v : Left Place). IsRefusalFor counts v x) same (p.2))
     ])
     (λ x p. (p.0, Contains-append_left seen (u ∷ []) (p.0) (p.1), p.2))
     (λ x p. (u, Contains-append_right seen (u ∷ []) u (contains-first u []), p)))

@@ -6,6 +6,7 @@ use Rattle.std.specs.List.{IsDistinct}
 use Rattle.std.proofs.lemmas.List.Concat.{flat_map-cons}
 use Rattle.std.proofs.lemmas.List.Elements.{All-contains, Contains-get_or}
 use Rattle.std.proofs.lemmas.List.Elements.{Contains-append_left, Contains-append_right}
+use Rattle.std.proofs.lemmas.List.Elements.{Contains-append_cases}
 
 pub nothing : {X : Type 0} (x : X) → Contains [] x → ⊥
 nothing x w = absurd (omega (arith, w.1))
@@ -29,6 +30,17 @@ cons-at x y xs (suc k) l e = inr (k, omega (arith, l), e)
 pub cons-cases : {X : Type 0} (x y : X) (xs : List X) → Contains (x ∷ xs) y
     → (x ≡ y) ⊎ Contains xs y
 cons-cases x y xs c = cons-at x y xs (c.0) (c.1) (c.2)
+
+-- what is in a list with one element more
+pub push-cases : {X : Type 0} (xs : List X) (x y : X) → Contains (xs ++ x ∷ []) y
+    → Contains xs y ⊎ (y ≡ x)
+push-cases xs x y c = elim (Contains-append_cases xs (x ∷ []) y c) [
+  | inl there ↦ inl there
+  | inr here ↦ elim (cons-cases x y [] here) [
+    | inl e ↦ inr (sym e)
+    | inr other ↦ absurd (nothing y other)
+  ]
+]
 
 module _ {A B : Type 0} (f : A → B) where
   mapped-at : (xs : List A) (k : ℕ) (x : A) → k < length xs → get_or xs k x ≡ x

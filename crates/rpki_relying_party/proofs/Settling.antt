@@ -1,22 +1,20 @@
--- Of each key one place is settled: read, or left unread.
+-- Of each key one place is read; places are read or left.
 use Rattle.std.proofs.Common.{◌≡◌, inl, inr, ℕ, List, [], ◌∷◌, ◌++◌, Bool, true, false}
 use Rattle.std.proofs.Common.{map, refl, sym, subst, ap, ◌∙◌, append_assoc}
 use Rattle.std.specs.Prelude.{◌↔◌, IsTrue, IsPermutation, bytes_eq}
 use Rattle.std.specs.List.{IsDistinct}
 use Rattle.std.proofs.lemmas.List.{map-append}
-use Rattle.std.proofs.lemmas.List.Elements.{recursion_from_All}
+use Rattle.std.proofs.lemmas.List.Elements.{recursion_from_All, Contains-append_left, Contains-push}
 use Rattle.std.proofs.lemmas.List.Sorted.{IsPermutation-sym, IsPermutation-trans}
 use Rattle.std.proofs.lemmas.List.Sorted.{IsPermutation-append_left, IsPermutation-append_right}
 use Rattle.std.proofs.lemmas.List.Sorted.{IsPermutation-append_comm, IsPermutation-middle}
 use Rattle.std.proofs.lemmas.List.Sorted.{IsPermutation-map, IsPermutation-to_front}
-use Rattle.std.proofs.lemmas.List.Sorted.{Contains-permutation}
 use Rattle.std.proofs.lemmas.Map.Keys.{IsDistinct-cons, IsDistinct-IsPermutation}
 use Rattle.std.proofs.lemmas.Slice.Eq.{bytes_eq-Decides}
 use Rattle.rpki_relying_party.specs.Walk.{Read, Left, HasKey, places_read, places_left}
 use Rattle.rpki_relying_party.specs.Walk.{places_settled}
-use Rattle.rpki_relying_party.specs.Steps.{Settles}
-use Rattle.rpki_relying_party.proofs.Lists.{contains-first, contains-rest, cons-cases}
-use Rattle.rpki_relying_party.proofs.Lists.{mapped-from, all-of}
+use Rattle.rpki_relying_party.specs.Steps.{Adds}
+use Rattle.rpki_relying_party.proofs.Lists.{mapped-from, all-of, push-cases}
 
 -- octets that differ are not equal by `==`
 pub differ : (a b : List ℕ) → ¬ (a ≡ b) → bytes_eq a b ≡ false
@@ -33,24 +31,24 @@ either-way a b = by (bytes_eq a b) refl
     by true e = sym ((bytes_eq-Decides b a).1 (sym ((bytes_eq-Decides a b).0 e)))
     by false e = sym (differ b a (λ s. absurd (cc ((bytes_eq-Decides a b).1 (sym s)))))
 
--- These places have keys that differ, and just these keys are settled.
-pub record AreSettled {P : Type 0} (key : P → List ℕ) (settled : List ℕ → Bool) (places : List P)
+-- These places have keys that differ, and just these are the keys.
+pub record AreKeyed {P : Type 0} (key : P → List ℕ) (keys : List ℕ → Bool) (places : List P)
     : Type 0 where
   pub distinct : IsDistinct bytes_eq (map key places)
-  pub keyed : (k : List ℕ) → IsTrue (settled k) ↔ HasKey key places k
+  pub keyed : (k : List ℕ) → IsTrue (keys k) ↔ HasKey key places k
 
 module _ {P : Type 0} (key : P → List ℕ) where
-  pub has-moved : (ps qs : List P) → IsPermutation ps qs → (k : List ℕ) → HasKey key ps k
-      → HasKey key qs k
-  has-moved ps qs i k h = (h.0, Contains-permutation ps qs (h.0) i (h.1), h.2)
+  -- one more is read
+  module _ (keys keys2 : List ℕ → Bool) (places : List P) (p : P)
+      (h : AreKeyed key keys places) (unknown : ¬ IsTrue (keys (key p)))
+      (now : Adds (key p) keys keys2) where
+    abbrev places2 : List P
+    places2 = places ++ p ∷ []
 
-  -- one more is settled
-  module _ (settled settled2 : List ℕ → Bool) (places places2 : List P) (p : P)
-      (h : AreSettled key settled places) (unknown : ¬ IsTrue (settled (key p)))
-      (now : Settles (key p) settled settled2) (i : IsPermutation (p ∷ places) places2) where
     distinct2 : IsDistinct bytes_eq (map key places2)
     distinct2 = IsDistinct-IsPermutation bytes_eq either-way (map key (p ∷ places))
-        (map key places2) (IsPermutation-map key (p ∷ places) places2 i)
+        (map key places2) (IsPermutation-map key (p ∷ places) places2
+        (IsPermutation-sym places2 (p ∷ places) (IsPermutation-to_front places p)))
         (IsDistinct-cons bytes_eq (key p) (map key places)
         (recursion_from_All (λ k. bytes_eq (key p) k ≡ false) (map key places)
         (all-of (λ k. bytes_eq (key p) k ≡ false) (map key places) (λ k c.
@@ -58,22 +56,21 @@ module _ {P : Type 0} (key : P → List ℕ) where
         let q = mapped-from key places k c in (q.0, q.1, q.2 ∙ sym e)))))))
         h.distinct)
 
-    keyed2 : (k : List ℕ) → IsTrue (settled2 k) ↔ HasKey key places2 k
+    keyed2 : (k : List ℕ) → IsTrue (keys2 k) ↔ HasKey key places2 k
     keyed2 k = (
-      λ t. has-moved (p ∷ places) places2 i k (elim ((now k).0 t) [
-        | inl old ↦ (let w = (h.keyed k).0 old in (w.0, contains-rest p (w.0) places (w.1), w.2))
-        | inr s ↦ (p, contains-first p places, sym s)
+      λ t. elim ((now k).0 t) [
+        | inl old ↦ (let w = (h.keyed k).0 old in
+            (w.0, Contains-append_left places (p ∷ []) (w.0) (w.1), w.2))
+        | inr s ↦ (p, Contains-push places p, sym s)
+      ],
+      λ w. (now k).1 (elim (push-cases places p (w.0) (w.1)) [
+        | inl c ↦ inl ((h.keyed k).1 (w.0, c, w.2))
+        | inr s ↦ inr (sym (w.2) ∙ ap key s)
       ]),
-      λ w. (now k).1 (
-          let v = has-moved places2 (p ∷ places) (IsPermutation-sym (p ∷ places) places2 i) k w in
-          elim (cons-cases p (v.0) places (v.1)) [
-            | inl s ↦ inr (sym (v.2) ∙ ap key (sym s))
-            | inr c ↦ inl ((h.keyed k).1 (v.0, c, v.2))
-          ]),
     )
 
-    pub settle : AreSettled key settled2 places2
-    settle = record { distinct = distinct2; keyed = keyed2 }
+    pub one-key : AreKeyed key keys2 places2
+    one-key = record { distinct = distinct2; keyed = keyed2 }
 
 -- ---- orders
 module _ {P X : Type 0} where

@@ -1,10 +1,11 @@
 -- What was spent on tries of each key is kept.
 use Rattle.std.proofs.Common.{◌≡◌, ◌⊎◌, inl, inr, ℕ, zero, suc, ◌+◌, ◌*◌, ◌<◌, ◌≤◌, List, [], ◌∷◌}
-use Rattle.std.proofs.Common.{◌++◌, Bool, true, false, cond, Vec, Option, Some}
+use Rattle.std.proofs.Common.{◌++◌, Bool, true, false, cond, Vec, Option, Some, Contains}
 use Rattle.std.proofs.Common.{unwrap_or, refl, sym, subst, ap, ◌∙◌, arith}
 use Rattle.std.specs.Prelude.{bytes_eq, sum_by}
 use Rattle.std.proofs.lemmas.Bool.{true≢false}
 use Rattle.std.proofs.lemmas.Cmp.{nat_list_cmp_total, eq_by_cmp_equiv}
+use Rattle.std.proofs.lemmas.List.Elements.{Contains-append_left, Contains-push}
 use Rattle.std.proofs.lemmas.List.Sums.{sum_by_push, sum_by-le-sum_by}
 use Rattle.std.proofs.lemmas.Slice.Eq.{bytes_eq-Decides}
 use Rattle.std.specs.declared.alloc.Global.{Global}
@@ -55,10 +56,9 @@ spends key old new now room is h k = by (bytes_eq key.items k) refl
         plain n = omega arith
 
 -- ---- tries that were cut
-module _ {P : Type 0} (key : P → List ℕ) (exceeds : P → ℕ → Type 0) where
-  pub spent-fits : (cuts : List (Try P)) (k : List ℕ)
-      → spent_on key cuts k ≤ sum_by (λ (t : Try P). t.room) cuts
-  spent-fits cuts k = sum_by-le-sum_by (λ (t : Try P). cond (bytes_eq (key t.place) k) t.room 0)
+module _ {P : Type 0} (key : P → List ℕ) (cuts : List (Try P)) where
+  pub spent-fits : (k : List ℕ) → spent_on key cuts k ≤ sum_by (λ (t : Try P). t.room) cuts
+  spent-fits k = sum_by-le-sum_by (λ (t : Try P). cond (bytes_eq (key t.place) k) t.room 0)
       (λ (t : Try P). t.room) cuts (λ t. part (bytes_eq (key t.place) k) t.room)
     where
       part : (b : Bool) (n : ℕ) → cond b n 0 ≤ n
@@ -66,19 +66,21 @@ module _ {P : Type 0} (key : P → List ℕ) (exceeds : P → ℕ → Type 0) wh
       part false n = omega arith
 
   -- what is little twice is so three times
-  pub small-weaker : (k : List ℕ) (n : ℕ) → IsSmall key exceeds 2 k n → IsSmall key exceeds 3 k n
+  small-weaker : (k : List ℕ) (n : ℕ) → IsSmall key cuts 2 k n → IsSmall key cuts 3 k n
   small-weaker k n (inl z) = inl z
-  small-weaker k n (inr h) = inr (h.0, h.1, h.2, h.3, omega (arith, h.4))
+  small-weaker k n (inr h) = inr (h.0, h.1, h.2, omega (arith, h.3))
 
   -- one try more was cut
-  module _ (cuts : List (Try P)) (p : P) (room : ℕ) (more : exceeds p room) where
+  module _ (p : P) (room : ℕ) where
+    abbrev try : Try P
+    try = record { place = p; room = room }
+
     abbrev cuts2 : List (Try P)
-    cuts2 = cuts ++ record { place = p; room = room } ∷ []
+    cuts2 = cuts ++ try ∷ []
 
     pub spent-more : (k : List ℕ)
         → spent_on key cuts2 k ≡ spent_on key cuts k + cond (bytes_eq (key p) k) room 0
-    spent-more k = sum_by_push (λ (t : Try P). cond (bytes_eq (key t.place) k) t.room 0) cuts
-        (record { place = p; room = room })
+    spent-more k = sum_by_push (λ (t : Try P). cond (bytes_eq (key t.place) k) t.room 0) cuts try
 
     pub spent-else : (k : List ℕ) → bytes_eq (key p) k ≡ false
         → spent_on key cuts2 k ≡ spent_on key cuts k
@@ -91,35 +93,41 @@ module _ {P : Type 0} (key : P → List ℕ) (exceeds : P → ℕ → Type 0) wh
     pub spent-grows : (k : List ℕ) → spent_on key cuts k ≤ spent_on key cuts2 k
     spent-grows k = omega (arith, spent-more k)
 
-    spent-here : spent_on key cuts2 (key p) ≡ spent_on key cuts (key p) + room
+    pub spent-here : spent_on key cuts2 (key p) ≡ spent_on key cuts (key p) + room
     spent-here = omega (
       arith,
       spent-more (key p),
       ap (λ (b : Bool). cond b room 0) ((bytes_eq-Decides (key p) (key p)).1 refl),
     )
 
+    pub small-stays : (times : ℕ) (k : List ℕ) (n : ℕ) → IsSmall key cuts times k n
+        → IsSmall key cuts2 times k n
+    small-stays times k n (inl z) = inl z
+    small-stays times k n (inr h) =
+        inr (h.0, Contains-append_left cuts (try ∷ []) (h.0) (h.1), h.2, h.3)
+
     -- what is spent stays little, if so it is of the key of the place
-    each-small : (times : ℕ) → ((k : List ℕ) → IsSmall key exceeds times k (spent_on key cuts k))
-        → IsSmall key exceeds times (key p) (spent_on key cuts2 (key p))
-        → (k : List ℕ) → IsSmall key exceeds times k (spent_on key cuts2 k)
+    each-small : (times : ℕ) → ((k : List ℕ) → IsSmall key cuts times k (spent_on key cuts k))
+        → IsSmall key cuts2 times (key p) (spent_on key cuts2 (key p))
+        → (k : List ℕ) → IsSmall key cuts2 times k (spent_on key cuts2 k)
     each-small times before here k = by (bytes_eq (key p) k) refl
       where
         by : (b : Bool) → bytes_eq (key p) k ≡ b
-            → IsSmall key exceeds times k (spent_on key cuts2 k)
-        by true e = subst (λ (j : List ℕ). IsSmall key exceeds times j (spent_on key cuts2 j))
+            → IsSmall key cuts2 times k (spent_on key cuts2 k)
+        by true e = subst (λ (j : List ℕ). IsSmall key cuts2 times j (spent_on key cuts2 j))
             ((bytes_eq-Decides (key p) k).0 e) here
-        by false e = subst (λ (n : ℕ). IsSmall key exceeds times k n) (sym (spent-else k e))
-            (before k)
+        by false e = subst (λ (n : ℕ). IsSmall key cuts2 times k n) (sym (spent-else k e))
+            (small-stays times k (spent_on key cuts k) (before k))
 
     -- the try had more room than all before
-    pub small-more : ((k : List ℕ) → IsSmall key exceeds 2 k (spent_on key cuts k))
+    pub small-more : ((k : List ℕ) → IsSmall key cuts 2 k (spent_on key cuts k))
         → spent_on key cuts (key p) < room
-        → (k : List ℕ) → IsSmall key exceeds 2 k (spent_on key cuts2 k)
+        → (k : List ℕ) → IsSmall key cuts2 2 k (spent_on key cuts2 k)
     small-more before less = each-small 2 before
-        (inr (p, room, refl, more, omega (arith, spent-here, less)))
+        (inr (try, Contains-push cuts try, refl, omega (arith, spent-here, less)))
 
-    pub small-once : ((k : List ℕ) → IsSmall key exceeds 2 k (spent_on key cuts k))
-        → (k : List ℕ) → IsSmall key exceeds 3 k (spent_on key cuts2 k)
+    pub small-once : ((k : List ℕ) → IsSmall key cuts 2 k (spent_on key cuts k))
+        → (k : List ℕ) → IsSmall key cuts2 3 k (spent_on key cuts2 k)
     small-once before = each-small 3 (λ k. small-weaker k (spent_on key cuts k) (before k))
         (one (before (key p)))
       where
@@ -131,16 +139,22 @@ module _ {P : Type 0} (key : P → List ℕ) (exceeds : P → ℕ → Type 0) wh
           | inr l ↦ inr (omega (arith, l))
         ]
 
-        by : (q : P) (m : ℕ) → key q ≡ key p → exceeds q m → spent_on key cuts (key p) ≤ 2 * m
-            → (m ≤ room) ⊎ (room ≤ m)
-            → IsSmall key exceeds 3 (key p) (spent_on key cuts2 (key p))
-        by q m e d h (inl i) = inr (p, room, refl, more, omega (arith, spent-here, h, i))
-        by q m e d h (inr i) = inr (q, m, e, d, omega (arith, spent-here, h, i))
+        by : (t : Try P) → Contains cuts t → key t.place ≡ key p
+            → spent_on key cuts (key p) ≤ 2 * t.room → (t.room ≤ room) ⊎ (room ≤ t.room)
+            → IsSmall key cuts2 3 (key p) (spent_on key cuts2 (key p))
+        by t c e h (inl i) =
+            inr (try, Contains-push cuts try, refl, omega (arith, spent-here, h, i))
+        by t c e h (inr i) = inr (
+          t,
+          Contains-append_left cuts (try ∷ []) t c,
+          e,
+          omega (arith, spent-here, h, i),
+        )
 
-        one : IsSmall key exceeds 2 (key p) (spent_on key cuts (key p))
-            → IsSmall key exceeds 3 (key p) (spent_on key cuts2 (key p))
-        one (inl z) = inr (p, room, refl, more, omega (arith, spent-here, z))
-        one (inr h) = by (h.0) (h.1) (h.2) (h.3) (h.4) (less-or-not (h.1) room)
+        one : IsSmall key cuts 2 (key p) (spent_on key cuts (key p))
+            → IsSmall key cuts2 3 (key p) (spent_on key cuts2 (key p))
+        one (inl z) = inr (try, Contains-push cuts try, refl, omega (arith, spent-here, z))
+        one (inr h) = by (h.0) (h.1) (h.2) (h.3) (less-or-not h.0.room room)
 
 -- nothing was spent yet
 pub none-spent : (spent : BTreeMap (Vec ℕ Global) ℕ) → spent.entries ≡ [] → (k : List ℕ)

@@ -1,14 +1,16 @@
 -- The turns of a walk keep what was read, what was left, and what waits.
-use Rattle.std.proofs.Common.{◌≡◌, ◌⊎◌, inl, inr, ℕ, ◌+◌, ◌-◌, ◌<◌, ◌≤◌, List, [], ◌∷◌, ◌++◌}
+use Rattle.std.proofs.Common.{◌≡◌, ◌≢◌, ◌⊎◌, inl, inr, ℕ, ◌+◌, ◌-◌, ◌*◌, ◌<◌, ◌≤◌, List, []}
+use Rattle.std.proofs.Common.{◌∷◌, ◌++◌, append_assoc, get_or}
 use Rattle.std.proofs.Common.{Bool, Contains, All, map, refl, sym, subst, ap, ◌∙◌, arith}
 use Rattle.std.proofs.Common.{length, length-append}
-use Rattle.std.specs.Prelude.{IsTrue, IsPermutation, bytes_eq, flat_map}
-use Rattle.std.proofs.lemmas.List.{append-nil, flat_map_more}
+use Rattle.std.specs.Prelude.{◌↔◌, IsTrue, IsPermutation, AllPairs, bytes_eq, flat_map}
+use Rattle.std.proofs.lemmas.List.{append-nil, map-append, flat_map_more}
+use Rattle.std.proofs.lemmas.List.Quantifiers.{all_pairs_push}
 use Rattle.std.proofs.lemmas.List.Sums.{sum_by-cons, sum_by_push}
 use Rattle.std.proofs.lemmas.List.Elements.{All-nil, All-cons, All-push, All-append, All-weaker}
 use Rattle.std.proofs.lemmas.List.Elements.{All-contains, Contains-append_left}
 use Rattle.std.proofs.lemmas.List.Elements.{Contains-append_right, Contains-append_cases}
-use Rattle.std.proofs.lemmas.List.Elements.{Contains-push}
+use Rattle.std.proofs.lemmas.List.Elements.{Contains-push, Contains-get_or}
 use Rattle.std.proofs.lemmas.List.Sorted.{IsPermutation-refl, IsPermutation-sym}
 use Rattle.std.proofs.lemmas.List.Sorted.{IsPermutation-cons, All-permutation}
 use Rattle.std.proofs.lemmas.List.Sorted.{Contains-permutation, length_permutation}
@@ -18,18 +20,18 @@ use Rattle.rpki_relying_party.specs.declared.walk.Why.{Why}
 use Rattle.rpki_relying_party.specs.declared.walk.Why.TheVariants.{Limit, Memory}
 use Rattle.rpki_relying_party.specs.Paths.{Leads}
 use Rattle.rpki_relying_party.specs.Walk.{Read, Left, Try, IsToldChild, IsMet, HasKey, IsWalk}
-use Rattle.rpki_relying_party.specs.Walk.{IsSmall, IsLastTry, places_read, places_settled}
+use Rattle.rpki_relying_party.specs.Walk.{IsSmall, HasLacked, IsLastTry, places_read, places_left}
+use Rattle.rpki_relying_party.specs.Walk.{places_settled}
 use Rattle.rpki_relying_party.specs.Walk.{places_told, spent_on, total, first_room}
-use Rattle.rpki_relying_party.specs.Steps.{IsHeard, ArePassed, IsTurn, IsLeftFor, IsVisit, WasLeft}
-use Rattle.rpki_relying_party.specs.Steps.{WasCut, WasRead, Settles, Spends, left_for}
+use Rattle.rpki_relying_party.specs.Steps.{Adds, IsHeard, ArePassed, IsTurn, IsVisit, WasLeft}
+use Rattle.rpki_relying_party.specs.Steps.{WasCut, WasRead, Spends, left_for}
 use Rattle.rpki_relying_party.proofs.Lists.{nothing, all-of, contains-first, contains-rest}
 use Rattle.rpki_relying_party.proofs.Lists.{contains-mapped, distinct-none, all-front}
-use Rattle.rpki_relying_party.proofs.Lists.{contains-flat}
-use Rattle.rpki_relying_party.proofs.Meeting.{passed-to}
-use Rattle.rpki_relying_party.proofs.Settling.{AreSettled, differ, has-moved, settle, one-read}
-use Rattle.rpki_relying_party.proofs.Settling.{one-left, order-passed, order-settled, order-met}
+use Rattle.rpki_relying_party.proofs.Lists.{contains-flat, push-cases}
+use Rattle.rpki_relying_party.proofs.Settling.{AreKeyed, differ, one-key, one-read, one-left}
+use Rattle.rpki_relying_party.proofs.Settling.{order-passed, order-settled, order-met}
 use Rattle.rpki_relying_party.proofs.Spending.{spent-fits, spent-more, spent-else, spent-grows}
-use Rattle.rpki_relying_party.proofs.Spending.{small-more, small-once}
+use Rattle.rpki_relying_party.proofs.Spending.{spent-here, small-stays, small-more, small-once}
 
 -- ---- numbers
 
@@ -61,15 +63,16 @@ leads-weaker child child2 f (c ∷ path) p q h =
 -- ---- the state between two turns: so much room is left, and these wait
 pub record IsRun {P X : Type 0} (tells : P → List X → List P → Type 0)
     (costs exceeds : P → ℕ → Type 0) (key : P → List ℕ) (listed lists had has : X → Type 0)
-    (first : Read P X) (limit room : ℕ) (unread : List (Left P)) (settled : List ℕ → Bool)
+    (first : Read P X) (limit room : ℕ) (unread : List (Left P)) (read lacking : List ℕ → Bool)
     (spent : List ℕ → ℕ) (waiting : List P) : Type 0 where
   pub reads : List (Read P X)
   pub begun : (rest : List (Read P X)) × (reads ≡ first ∷ rest)
   pub told : All (λ r. tells r.place r.said r.children) reads
   pub cost : All (λ r. costs r.place r.cost) reads
-  pub once : AreSettled key settled (places_settled reads unread)
+  pub once : AreKeyed key read (places_read reads)
   pub passed : List P
-  pub over : All (λ p. HasKey key (places_settled reads unread) (key p)) passed
+  pub over : All (λ p. HasKey key (places_read reads) (key p)) passed
+  pub fresh : All (λ u. ¬ IsTrue (read (key u.place))) unread
   pub split : IsPermutation (places_told first.place reads)
       (places_settled reads unread ++ (passed ++ waiting))
   pub reached : All (IsMet first.place reads) (places_told first.place reads)
@@ -79,34 +82,41 @@ pub record IsRun {P X : Type 0} (tells : P → List X → List P → Type 0)
   pub stays : (x : X) → had x → has x
   pub cuts : List (Try P)
   pub cut : All (λ t. exceeds t.place t.room) cuts
+  pub cut_met : All (λ t. IsMet first.place reads t.place) cuts
   pub counts : (k : List ℕ) → spent k ≡ spent_on key cuts k
   pub exact : total reads unread cuts + room ≡ limit
   pub full : All (λ u. u.why ≡ Limit → room ≡ 0) unread
-  pub wasted : (k : List ℕ) → IsSmall key exceeds 3 k (spent_on key cuts k)
-  pub small : (room ≡ 0) ⊎ ((k : List ℕ) → IsSmall key exceeds 2 k (spent_on key cuts k))
-  pub tried : All (λ r. IsSmall key exceeds 2 (key r.place) (spent_on key cuts (key r.place))) reads
+  pub small : All (λ r. r.cost ≤ spent_on key cuts (key r.place) + first_room limit) (begun.0)
+  pub rooms : All (λ t. 2 * t.room ≤ spent_on key cuts (key t.place) + first_room limit) cuts
   pub left : All (λ u. IsLastTry limit (spent_on key cuts (key u.place)) u.why u.tried) unread
+  pub wasted : (k : List ℕ) → IsSmall key cuts 3 k (spent_on key cuts k)
+  pub doubles : (room ≡ 0) ⊎ ((k : List ℕ) → IsSmall key cuts 2 k (spent_on key cuts k))
+  pub tried : All (λ r. IsSmall key cuts 2 (key r.place) (spent_on key cuts (key r.place))) reads
+  pub lacks : (k : List ℕ) → IsTrue (lacking k) ↔ HasLacked key unread k
+  pub lacked : All (λ u. u.why ≡ Memory → IsTrue (lacking (key u.place))) unread
+  pub lacked_once :
+      AllPairs (λ u v. 0 < u.tried → 0 < v.tried → key u.place ≢ key v.place) unread
 
 -- ---- the first was read
 module _ {P X F : Type 0} (tells : P → List X → List P → Type 0) (costs exceeds : P → ℕ → Type 0)
     (key : P → List ℕ) (lists has : F → X → Type 0) (found found2 : F) (first : Read P X)
-    (limit : ℕ) (unread : List (Left P)) (none settled : List ℕ → Bool) (spent : List ℕ → ℕ)
-    (empty waiting : List P) (k : List ℕ) where
+    (limit : ℕ) (unread : List (Left P)) (none read lacking : List ℕ → Bool)
+    (spent : List ℕ → ℕ) (empty waiting : List P) (k : List ℕ) where
   abbrev Begun : List (Left P) → Type 0
   Begun unread = IsRun tells costs exceeds key (lists found) (lists found2) (has found)
-      (has found2) first limit (limit - first.cost) unread settled spent waiting
+      (has found2) first limit (limit - first.cost) unread read lacking spent waiting
 
   module _ (its : k ≡ key first.place) (told : tells first.place first.said first.children)
       (cost : costs first.place first.cost) (fits : first.cost ≤ limit)
-      (absent : (j : List ℕ) → ¬ IsTrue (none j)) (unspent : (j : List ℕ) → spent j ≡ 0)
-      (e : empty ≡ [])
-      (h : IsHeard lists has k first.said first.children found found2 none settled empty waiting)
+      (absent : (j : List ℕ) → ¬ IsTrue (none j)) (untried : (j : List ℕ) → ¬ IsTrue (lacking j))
+      (unspent : (j : List ℕ) → spent j ≡ 0) (e : empty ≡ [])
+      (h : IsHeard lists has k first.said first.children found found2 none read empty waiting)
     where
       abbrev reads1 : List (Read P X)
       reads1 = first ∷ []
 
       abbrev Untried : Read P X → Type 0
-      Untried r = IsSmall key exceeds 2 (key r.place) (spent_on key [] (key r.place))
+      Untried r = IsSmall key [] 2 (key r.place) (spent_on key [] (key r.place))
 
       met : IsPermutation (first.children ++ []) waiting
       met = subst (λ (l : List P). IsPermutation (first.children ++ l) waiting) e h.met
@@ -133,16 +143,16 @@ module _ {P X F : Type 0} (tells : P → List X → List P → Type 0) (costs ex
             (All-nil (λ r. tells r.place r.said r.children));
         cost = All-cons (λ r. costs r.place r.cost) first [] cost
             (All-nil (λ r. costs r.place r.cost));
-        once = settle key none settled [] (first.place ∷ []) first.place
+        once = one-key key none read [] first.place
             (record {
               distinct = distinct-none bytes_eq;
               keyed = λ j. (λ t. absurd (absent j t), λ w. absurd (nothing (w.0) (w.1)));
             })
             (absent (key first.place))
-            (subst (λ (j : List ℕ). Settles j none settled) its h.settles)
-            (IsPermutation-refl (first.place ∷ []));
+            (subst (λ (j : List ℕ). Adds j none read) its h.reads);
         passed = [];
-        over = All-nil (λ p. HasKey key (places_settled reads1 []) (key p));
+        over = All-nil (λ p. HasKey key (places_read reads1) (key p));
+        fresh = All-nil (λ u. ¬ IsTrue (read (key u.place)));
         split = IsPermutation-cons first.place (first.children ++ []) waiting met;
         reached = All-cons (IsMet first.place reads1) first.place (first.children ++ []) ([], refl)
             (all-of (IsMet first.place reads1) (first.children ++ []) first-met);
@@ -155,13 +165,19 @@ module _ {P X F : Type 0} (tells : P → List X → List P → Type 0) (costs ex
         stays = h.stays;
         cuts = [];
         cut = All-nil (λ t. exceeds t.place t.room);
+        cut_met = All-nil (λ t. IsMet first.place reads1 t.place);
         counts = unspent;
         exact = omega (arith, sum_by-cons (λ (r : Read P X). r.cost) first [], fits);
         full = All-nil (λ u. u.why ≡ Limit → limit - first.cost ≡ 0);
-        wasted = λ j. inl refl;
-        small = inr (λ j. inl refl);
-        tried = All-cons Untried first [] (inl refl) (All-nil Untried);
+        small = All-nil (λ r. r.cost ≤ spent_on key [] (key r.place) + first_room limit);
+        rooms = All-nil (λ t. 2 * t.room ≤ spent_on key [] (key t.place) + first_room limit);
         left = All-nil (λ u. IsLastTry limit (spent_on key [] (key u.place)) u.why u.tried);
+        wasted = λ j. inl refl;
+        doubles = inr (λ j. inl refl);
+        tried = All-cons Untried first [] (inl refl) (All-nil Untried);
+        lacks = λ j. (λ t. absurd (untried j t), λ w. absurd (nothing (w.0) (w.1)));
+        lacked = All-nil (λ u. u.why ≡ Memory → IsTrue (lacking (key u.place)));
+        lacked_once = λ i j d lt within. absurd (omega (arith, within));
       }
 
       pub run-begun : unread ≡ [] → Begun unread
@@ -170,96 +186,139 @@ module _ {P X F : Type 0} (tells : P → List X → List P → Type 0) (costs ex
 module _ {P X : Type 0} (tells : P → List X → List P → Type 0) (costs exceeds : P → ℕ → Type 0)
     (key : P → List ℕ) (listed had : X → Type 0) (first : Read P X) (limit : ℕ) where
   abbrev Run : (X → Type 0) → (X → Type 0) → ℕ → List (Left P) → (List ℕ → Bool)
-      → (List ℕ → ℕ) → List P → Type 0
-  Run lists has room unread settled spent waiting =
-      IsRun tells costs exceeds key listed lists had has first limit room unread settled spent
+      → (List ℕ → Bool) → (List ℕ → ℕ) → List P → Type 0
+  Run lists has room unread read lacking spent waiting =
+      IsRun tells costs exceeds key listed lists had has first limit room unread read lacking spent
       waiting
 
   -- ---- some are passed over
-  pub run-passed : (lists has : X → Type 0) (room : ℕ) (unread : List (Left P))
-      (settled : List ℕ → Bool) (spent : List ℕ → ℕ) (waiting waiting2 : List P)
-      → Run lists has room unread settled spent waiting
-      → ArePassed key settled waiting waiting2
-      → Run lists has room unread settled spent waiting2
-  run-passed lists has room unread settled spent waiting waiting2 r a = record {
+  run-over : (lists has : X → Type 0) (room : ℕ) (unread : List (Left P))
+      (read lacking : List ℕ → Bool) (spent : List ℕ → ℕ) (waiting passed waiting2 : List P)
+      → Run lists has room unread read lacking spent waiting
+      → All (λ p. IsTrue (read (key p))) passed → IsPermutation waiting (passed ++ waiting2)
+      → Run lists has room unread read lacking spent waiting2
+  run-over lists has room unread read lacking spent waiting passed waiting2 r over split = record {
     reads = r.reads;
     begun = r.begun;
     told = r.told;
     cost = r.cost;
     once = r.once;
-    passed = r.passed ++ a.passed;
-    over = All-append (λ p. HasKey key (places_settled r.reads unread) (key p)) r.passed a.passed
-        r.over (All-weaker (λ p. IsTrue (settled (key p)))
-        (λ p. HasKey key (places_settled r.reads unread) (key p))
-        (λ p t. (r.once.keyed (key p)).0 t) a.passed a.over);
+    passed = r.passed ++ passed;
+    over = All-append (λ p. HasKey key (places_read r.reads) (key p)) r.passed passed
+        r.over (All-weaker (λ p. IsTrue (read (key p)))
+        (λ p. HasKey key (places_read r.reads) (key p))
+        (λ p t. (r.once.keyed (key p)).0 t) passed over);
+    fresh = r.fresh;
     split = order-passed (places_told first.place r.reads) (places_settled r.reads unread) r.passed
-        waiting a.passed waiting2 r.split a.split;
+        waiting passed waiting2 r.split split;
     reached = r.reached;
     found = r.found;
     kept = r.kept;
     stays = r.stays;
     cuts = r.cuts;
     cut = r.cut;
+    cut_met = r.cut_met;
     counts = r.counts;
     exact = r.exact;
     full = r.full;
-    wasted = r.wasted;
     small = r.small;
-    tried = r.tried;
+    rooms = r.rooms;
     left = r.left;
+    wasted = r.wasted;
+    doubles = r.doubles;
+    tried = r.tried;
+    lacks = r.lacks;
+    lacked = r.lacked;
+    lacked_once = r.lacked_once;
   }
 
-  -- ---- the turn of a place came, whose key is not settled
-  module _ (lists has : X → Type 0) (room : ℕ) (unread : List (Left P)) (settled : List ℕ → Bool)
-      (spent : List ℕ → ℕ) (p : P) (waiting : List P)
-      (r : Run lists has room unread settled spent (p ∷ waiting))
-      (unknown : ¬ IsTrue (settled (key p))) where
+  -- the others in another order
+  run-order : (lists has : X → Type 0) (room : ℕ) (unread : List (Left P))
+      (read lacking : List ℕ → Bool) (spent : List ℕ → ℕ) (waiting waiting2 : List P)
+      → Run lists has room unread read lacking spent waiting → IsPermutation waiting waiting2
+      → Run lists has room unread read lacking spent waiting2
+  run-order lists has room unread read lacking spent waiting waiting2 r split =
+      run-over lists has room unread read lacking spent waiting [] waiting2 r
+      (All-nil (λ p. IsTrue (read (key p)))) split
+
+  -- ---- the turn of a place came, whose key was not read
+  module _ (lists has : X → Type 0) (room : ℕ) (unread : List (Left P))
+      (read lacking : List ℕ → Bool) (spent : List ℕ → ℕ) (p : P) (waiting : List P)
+      (r : Run lists has room unread read lacking spent (p ∷ waiting))
+      (unknown : ¬ IsTrue (read (key p))) where
     -- those that were left for the limit were left where nothing is left
     full-then : (n : ℕ) → All (λ u. u.why ≡ Limit → room - n ≡ 0) unread
     full-then n = All-weaker (λ u. u.why ≡ Limit → room ≡ 0) (λ u. u.why ≡ Limit → room - n ≡ 0)
         (λ u h l. still-none room n (h l)) unread r.full
 
-    -- the places that were passed over have keys that are settled still
-    over-then : (places : List P)
-        → IsPermutation (p ∷ places_settled r.reads unread) places
-        → All (λ q. HasKey key places (key q)) r.passed
-    over-then places i = All-weaker (λ q. HasKey key (places_settled r.reads unread) (key q))
-        (λ q. HasKey key places (key q))
-        (λ q h. has-moved key (p ∷ places_settled r.reads unread) places i (key q)
-        (h.0, contains-rest p (h.0) (places_settled r.reads unread) (h.1), h.2)) r.passed r.over
-
-    -- ---- it is left
-    module _ (why : Why) (tried : ℕ) (settled2 : List ℕ → Bool)
-        (settles : Settles (key p) settled settled2) (fits : tried ≤ room)
-        (last : IsLastTry limit (spent (key p)) why tried) (full : why ≡ Limit → room ≡ 0) where
+    -- ---- it is left: without a try, or after one for which there was no memory
+    module _ (why : Why) (tried : ℕ) (lacking2 : List ℕ → Bool) (fits : tried ≤ room)
+        (last : IsLastTry limit (spent (key p)) why tried) (full : why ≡ Limit → room ≡ 0)
+        (memory : why ≡ Memory → IsTrue (lacking2 (key p)))
+        (how : ((tried ≡ 0) × (lacking2 ≡ lacking))
+        ⊎ ((0 < tried) × Adds (key p) lacking lacking2 × ¬ IsTrue (lacking (key p)))) where
       abbrev left : Left P
       left = left_for p why tried
 
       abbrev unread2 : List (Left P)
       unread2 = unread ++ left ∷ []
 
-      now-settled : IsPermutation (p ∷ places_settled r.reads unread)
-          (places_settled r.reads unread2)
-      now-settled = one-left r.reads unread left
+      still-lacks : (k : List ℕ) → IsTrue (lacking k) → IsTrue (lacking2 k)
+      still-lacks k t = elim how [
+        | inl h ↦ subst (λ (l : List ℕ → Bool). IsTrue (l k)) (sym (h.1)) t
+        | inr h ↦ (h.1 k).1 (inl t)
+      ]
 
-      pub run-left : Run lists has (room - tried) unread2 settled2 spent waiting
+      lacked-still : (k : List ℕ) → IsTrue (lacking k) → HasLacked key unread2 k
+      lacked-still k t =
+          let w = (r.lacks k).0 t in
+          (w.0, Contains-append_left unread (left ∷ []) (w.0) (w.1), w.2, w.3)
+
+      has-lacked : (k : List ℕ) → IsTrue (lacking2 k) → HasLacked key unread2 k
+      has-lacked k t = elim how [
+        | inl h ↦ lacked-still k (subst (λ (l : List ℕ → Bool). IsTrue (l k)) (h.1) t)
+        | inr h ↦ (elim ((h.1 k).0 t) [
+          | inl old ↦ lacked-still k old
+          | inr s ↦ (left, Contains-push unread left, sym s, h.0)
+        ])
+      ]
+
+      is-lacking : (k : List ℕ) → HasLacked key unread2 k → IsTrue (lacking2 k)
+      is-lacking k w = elim (push-cases unread left (w.0) (w.1)) [
+        | inl c ↦ still-lacks k ((r.lacks k).1 (w.0, c, w.2, w.3))
+        | inr s ↦ (elim how [
+          | inl h ↦ absurd (omega (arith, w.3, ap (λ (u : Left P). u.tried) s, h.0))
+          | inr h ↦ (h.1 k).1 (inr (sym (w.2) ∙ ap (λ (u : Left P). key u.place) s))
+        ])
+      ]
+
+      once-more : (u : Left P) → Contains unread u → 0 < u.tried → 0 < tried
+          → key u.place ≢ key p
+      once-more u c some now e = elim how [
+        | inl h ↦ absurd (omega (arith, now, h.0))
+        | inr h ↦ h.2 ((r.lacks (key p)).1 (u, c, e, some))
+      ]
+
+      pub run-left : Run lists has (room - tried) unread2 read lacking2 spent waiting
       run-left = record {
         reads = r.reads;
         begun = r.begun;
         told = r.told;
         cost = r.cost;
-        once = settle key settled settled2 (places_settled r.reads unread)
-            (places_settled r.reads unread2) p r.once unknown settles now-settled;
+        once = r.once;
         passed = r.passed;
-        over = over-then (places_settled r.reads unread2) now-settled;
+        over = r.over;
+        fresh = All-push (λ u. ¬ IsTrue (read (key u.place))) unread left r.fresh unknown;
         split = order-settled (places_told first.place r.reads) (places_settled r.reads unread)
-            (places_settled r.reads unread2) r.passed waiting p r.split now-settled;
+            (places_settled r.reads unread2) r.passed waiting p r.split
+            (one-left r.reads unread left);
         reached = r.reached;
         found = r.found;
         kept = r.kept;
         stays = r.stays;
         cuts = r.cuts;
         cut = r.cut;
+        cut_met = r.cut_met;
         counts = r.counts;
         exact = omega (
           arith,
@@ -269,24 +328,46 @@ module _ {P X : Type 0} (tells : P → List X → List P → Type 0) (costs exce
         );
         full = All-push (λ u. u.why ≡ Limit → room - tried ≡ 0) unread left (full-then tried)
             (λ l. still-none room tried (full l));
+        small = r.small;
+        rooms = r.rooms;
+        left = All-push
+            (λ u. IsLastTry limit (spent_on key r.cuts (key u.place)) u.why u.tried) unread left
+            r.left (subst (λ (n : ℕ). IsLastTry limit n why tried) (r.counts (key p)) last);
         wasted = r.wasted;
-        small = elim r.small [
+        doubles = elim r.doubles [
           | inl z ↦ inl (still-none room tried z)
           | inr h ↦ inr h
         ];
         tried = r.tried;
-        left = All-push
-            (λ u. IsLastTry limit (spent_on key r.cuts (key u.place)) u.why u.tried) unread left
-            r.left (subst (λ (n : ℕ). IsLastTry limit n why tried) (r.counts (key p)) last);
+        lacks = λ k. (has-lacked k, is-lacking k);
+        lacked = All-push (λ u. u.why ≡ Memory → IsTrue (lacking2 (key u.place))) unread left
+            (All-weaker (λ u. u.why ≡ Memory → IsTrue (lacking (key u.place)))
+            (λ u. u.why ≡ Memory → IsTrue (lacking2 (key u.place)))
+            (λ u h m. still-lacks (key u.place) (h m)) unread r.lacked) memory;
+        lacked_once = all_pairs_push
+            (λ u v. 0 < u.tried → 0 < v.tried → key u.place ≢ key v.place) unread left
+            r.lacked_once (λ i d within.
+            once-more (get_or unread i d) (Contains-get_or unread i d within));
       }
 
-    -- ---- it is tried
-    module _ (allowed : ℕ) (some : 0 < allowed) (fits : allowed ≤ room) where
-      all-small : (k : List ℕ) → IsSmall key exceeds 2 k (spent_on key r.cuts k)
-      all-small = elim r.small [
+    -- ---- it is tried, since its key did not lack memory
+    module _ (untried : ¬ IsTrue (lacking (key p))) (allowed : ℕ) (some : 0 < allowed)
+        (fits : allowed ≤ room) (most : allowed ≤ spent (key p) + first_room limit) where
+      all-small : (k : List ℕ) → IsSmall key r.cuts 2 k (spent_on key r.cuts k)
+      all-small = elim r.doubles [
         | inl z ↦ absurd (no-room allowed room some fits z)
         | inr h ↦ h
       ]
+
+      now-met : IsMet first.place r.reads p
+      now-met = All-contains (IsMet first.place r.reads) (places_told first.place r.reads) p
+          r.reached (Contains-permutation
+          (places_settled r.reads unread ++ (r.passed ++ p ∷ waiting))
+          (places_told first.place r.reads) p
+          (IsPermutation-sym (places_told first.place r.reads)
+          (places_settled r.reads unread ++ (r.passed ++ p ∷ waiting)) r.split)
+          (Contains-append_right (places_settled r.reads unread) (r.passed ++ p ∷ waiting) p
+          (Contains-append_right r.passed (p ∷ waiting) p (contains-first p waiting))))
 
       -- its reading was cut
       module _ (more : exceeds p allowed) (spent2 : List ℕ → ℕ)
@@ -298,27 +379,22 @@ module _ {P X : Type 0} (tells : P → List X → List P → Type 0) (costs exce
         abbrev cuts2 : List (Try P)
         cuts2 = r.cuts ++ try ∷ []
 
-        -- on a settled key no more is spent
-        same : (k : List ℕ) → HasKey key (places_settled r.reads unread) k
-            → spent_on key cuts2 k ≡ spent_on key r.cuts k
-        same k h = spent-else key exceeds r.cuts p allowed more k
-            (differ (key p) k (λ e. unknown ((r.once.keyed (key p)).1 (h.0, h.1, h.2 ∙ sym e))))
+        more-spent : (k : List ℕ) → spent_on key r.cuts k ≤ spent_on key cuts2 k
+        more-spent = spent-grows key r.cuts p allowed
 
-        read-key : (s : Read P X) → Contains r.reads s
-            → HasKey key (places_settled r.reads unread) (key s.place)
-        read-key s c = (
-          s.place,
-          Contains-append_left (places_read r.reads) _ s.place
-              (contains-mapped (λ (s : Read P X). s.place) r.reads s c),
-          refl,
-        )
+        -- on a key that was read no more is spent
+        same : (s : Read P X) → Contains r.reads s
+            → spent_on key cuts2 (key s.place) ≡ spent_on key r.cuts (key s.place)
+        same s c = spent-else key r.cuts p allowed (key s.place)
+            (differ (key p) (key s.place) (λ e. unknown ((r.once.keyed (key p)).1
+            (s.place, contains-mapped (λ (s : Read P X). s.place) r.reads s c, sym e))))
 
         last-try : (n m : ℕ) (why : Why) (tried : ℕ) → n ≤ m → IsLastTry limit n why tried
             → IsLastTry limit m why tried
         last-try n m Limit tried l h = h
-        last-try n m Memory tried l h = (h.0, omega (arith, l, h.1))
+        last-try n m Memory tried l h = omega (arith, l, h)
 
-        pub run-cut : Run lists has (room - allowed) unread settled spent2 (p ∷ waiting)
+        pub run-cut : Run lists has (room - allowed) unread read lacking spent2 (p ∷ waiting)
         run-cut = record {
           reads = r.reads;
           begun = r.begun;
@@ -327,6 +403,7 @@ module _ {P X : Type 0} (tells : P → List X → List P → Type 0) (costs exce
           once = r.once;
           passed = r.passed;
           over = r.over;
+          fresh = r.fresh;
           split = r.split;
           reached = r.reached;
           found = r.found;
@@ -334,11 +411,12 @@ module _ {P X : Type 0} (tells : P → List X → List P → Type 0) (costs exce
           stays = r.stays;
           cuts = cuts2;
           cut = All-push (λ t. exceeds t.place t.room) r.cuts try r.cut more;
+          cut_met = All-push (λ t. IsMet first.place r.reads t.place) r.cuts try r.cut_met now-met;
           counts = λ k. omega (
             arith,
             spends k,
             r.counts k,
-            spent-more key exceeds r.cuts p allowed more k,
+            spent-more key r.cuts p allowed k,
           );
           exact = omega (
             arith,
@@ -347,87 +425,116 @@ module _ {P X : Type 0} (tells : P → List X → List P → Type 0) (costs exce
             r.exact,
           );
           full = full-then allowed;
-          wasted = small-once key exceeds r.cuts p allowed more all-small;
-          small = elim grows [
-            | inl all ↦ inl (all-gone allowed room all)
-            | inr less ↦ inr (small-more key exceeds r.cuts p allowed more all-small
-                (omega (arith, less, r.counts (key p))))
-          ];
-          tried = all-of
-              (λ s. IsSmall key exceeds 2 (key s.place) (spent_on key cuts2 (key s.place))) r.reads
-              (λ s c. subst (λ (n : ℕ). IsSmall key exceeds 2 (key s.place) n)
-              (sym (same (key s.place) (read-key s c))) (all-small (key s.place)));
+          small = All-weaker
+              (λ s. s.cost ≤ spent_on key r.cuts (key s.place) + first_room limit)
+              (λ s. s.cost ≤ spent_on key cuts2 (key s.place) + first_room limit)
+              (λ s h. omega (arith, h, more-spent (key s.place))) (r.begun.0) r.small;
+          rooms = All-push
+              (λ t. 2 * t.room ≤ spent_on key cuts2 (key t.place) + first_room limit) r.cuts try
+              (All-weaker
+              (λ t. 2 * t.room ≤ spent_on key r.cuts (key t.place) + first_room limit)
+              (λ t. 2 * t.room ≤ spent_on key cuts2 (key t.place) + first_room limit)
+              (λ t h. omega (arith, h, more-spent (key t.place))) r.cuts r.rooms)
+              (omega (arith, spent-here key r.cuts p allowed, most, r.counts (key p)));
           left = All-weaker
               (λ u. IsLastTry limit (spent_on key r.cuts (key u.place)) u.why u.tried)
               (λ u. IsLastTry limit (spent_on key cuts2 (key u.place)) u.why u.tried)
               (λ u h. last-try (spent_on key r.cuts (key u.place))
-              (spent_on key cuts2 (key u.place)) u.why u.tried
-              (spent-grows key exceeds r.cuts p allowed more (key u.place)) h) unread r.left;
+              (spent_on key cuts2 (key u.place)) u.why u.tried (more-spent (key u.place)) h) unread
+              r.left;
+          wasted = small-once key r.cuts p allowed all-small;
+          doubles = elim grows [
+            | inl all ↦ inl (all-gone allowed room all)
+            | inr less ↦ inr (small-more key r.cuts p allowed all-small
+                (omega (arith, less, r.counts (key p))))
+          ];
+          tried = all-of
+              (λ s. IsSmall key cuts2 2 (key s.place) (spent_on key cuts2 (key s.place))) r.reads
+              (λ s c. subst (λ (n : ℕ). IsSmall key cuts2 2 (key s.place) n) (sym (same s c))
+              (small-stays key r.cuts p allowed 2 (key s.place)
+              (spent_on key r.cuts (key s.place)) (all-small (key s.place))));
+          lacks = r.lacks;
+          lacked = r.lacked;
+          lacked_once = r.lacked_once;
         }
 
       -- it is read
       module _ (lists2 has2 : X → Type 0) (said : List X) (children : List P) (c : ℕ)
-          (settled2 : List ℕ → Bool) (told : tells p said children) (cost : costs p c)
-          (cheap : c ≤ allowed) (settles : Settles (key p) settled settled2)
+          (read2 : List ℕ → Bool) (told : tells p said children) (cost : costs p c)
+          (cheap : c ≤ allowed) (adds : Adds (key p) read read2)
           (found : (x : X) → lists2 x → lists x ⊎ Contains said x)
           (stays : (x : X) → has x → has2 x) (kept : All has2 said) where
-        abbrev read : Read P X
-        read = record { place = p; said = said; children = children; cost = c }
+        abbrev now : Read P X
+        now = record { place = p; said = said; children = children; cost = c }
 
         abbrev reads2 : List (Read P X)
-        reads2 = r.reads ++ read ∷ []
+        reads2 = r.reads ++ now ∷ []
 
-        now-read : IsPermutation (p ∷ places_settled r.reads unread) (places_settled reads2 unread)
-        now-read = one-read r.reads unread read
+        places2 : places_read r.reads ++ p ∷ [] ≡ places_read reads2
+        places2 = sym (map-append (λ (s : Read P X). s.place) r.reads (now ∷ []))
 
         told2 : places_told first.place r.reads ++ children ≡ places_told first.place reads2
-        told2 = flat_map_more (λ (s : Read P X). s.children) (first.place ∷ []) r.reads read
+        told2 = flat_map_more (λ (s : Read P X). s.children) (first.place ∷ []) r.reads now
+
+        -- no place that was left has its key
+        other : (u : Left P) → Contains unread u → ¬ (key u.place ≡ key p)
+        other u i e = by u.why refl
+          where
+            by : (w : Why) → u.why ≡ w → ⊥
+            by Limit l = no-room allowed room some fits
+                (All-contains (λ u. u.why ≡ Limit → room ≡ 0) unread u r.full i l)
+            by Memory m = untried (subst (λ (j : List ℕ). IsTrue (lacking j)) e
+                (All-contains (λ u. u.why ≡ Memory → IsTrue (lacking (key u.place))) unread u
+                r.lacked i m))
+
+        fresh2 : (u : Left P) → Contains unread u → ¬ IsTrue (read2 (key u.place))
+        fresh2 u i t = elim ((adds (key u.place)).0 t) [
+          | inl old ↦
+              All-contains (λ u. ¬ IsTrue (read (key u.place))) unread u r.fresh i old
+          | inr e ↦ other u i e
+        ]
 
         grows : (q : P) → IsMet first.place r.reads q → IsMet first.place reads2 q
         grows q h = (
           h.0,
           leads-weaker (IsToldChild r.reads) (IsToldChild reads2)
-              (λ a b t. (t.0, Contains-append_left r.reads (read ∷ []) (t.0) (t.1), t.2, t.3))
+              (λ a b t. (t.0, Contains-append_left r.reads (now ∷ []) (t.0) (t.1), t.2, t.3))
               (h.0) first.place q (h.1),
         )
 
-        was-told : Contains (places_told first.place r.reads) p
-        was-told = Contains-permutation
-            (places_settled r.reads unread ++ (r.passed ++ p ∷ waiting))
-            (places_told first.place r.reads) p
-            (IsPermutation-sym (places_told first.place r.reads)
-            (places_settled r.reads unread ++ (r.passed ++ p ∷ waiting)) r.split)
-            (Contains-append_right (places_settled r.reads unread) (r.passed ++ p ∷ waiting) p
-            (Contains-append_right r.passed (p ∷ waiting) p (contains-first p waiting)))
-
         child-met : (q : P) → Contains children q → IsMet first.place reads2 q
         child-met q h =
-            let to = grows p (All-contains (IsMet first.place r.reads)
-            (places_told first.place r.reads) p r.reached was-told) in (
+            let to = grows p now-met in (
               to.0 ++ q ∷ [],
               leads-on (IsToldChild reads2) first.place p q (to.0) (to.1)
-                  (read, Contains-push r.reads read, refl, h),
+                  (now, Contains-push r.reads now, refl, h),
             )
 
-        pub run-read : Run lists2 has2 (room - c) unread settled2 spent (children ++ waiting)
+        pub run-read : Run lists2 has2 (room - c) unread read2 lacking spent (children ++ waiting)
         run-read = record {
           reads = reads2;
           begun = (
-            r.begun.0 ++ read ∷ [],
-            ap (λ (l : List (Read P X)). l ++ read ∷ []) (r.begun.1),
+            r.begun.0 ++ now ∷ [],
+            ap (λ (l : List (Read P X)). l ++ now ∷ []) (r.begun.1),
           );
-          told = All-push (λ s. tells s.place s.said s.children) r.reads read r.told told;
-          cost = All-push (λ s. costs s.place s.cost) r.reads read r.cost cost;
-          once = settle key settled settled2 (places_settled r.reads unread)
-              (places_settled reads2 unread) p r.once unknown settles now-read;
+          told = All-push (λ s. tells s.place s.said s.children) r.reads now r.told told;
+          cost = All-push (λ s. costs s.place s.cost) r.reads now r.cost cost;
+          once = subst (λ (l : List P). AreKeyed key read2 l) places2
+              (one-key key read read2 (places_read r.reads) p r.once unknown adds);
           passed = r.passed;
-          over = over-then (places_settled reads2 unread) now-read;
+          over = subst (λ (l : List P). All (λ q. HasKey key l (key q)) r.passed) places2
+              (All-weaker (λ q. HasKey key (places_read r.reads) (key q))
+              (λ q. HasKey key (places_read r.reads ++ p ∷ []) (key q))
+              (λ q h. (h.0, Contains-append_left (places_read r.reads) (p ∷ []) (h.0) (h.1), h.2))
+              r.passed r.over);
+          fresh = all-of (λ u. ¬ IsTrue (read2 (key u.place))) unread fresh2;
           split = subst (λ (l : List P). IsPermutation l (places_settled reads2 unread
               ++ (r.passed ++ (children ++ waiting)))) told2
               (order-met (places_told first.place r.reads) (places_settled reads2 unread) r.passed
               waiting children
               (order-settled (places_told first.place r.reads) (places_settled r.reads unread)
-              (places_settled reads2 unread) r.passed waiting p r.split now-read));
+              (places_settled reads2 unread) r.passed waiting p r.split
+              (one-read r.reads unread now)));
           reached = subst (λ (l : List P). All (IsMet first.place reads2) l) told2
               (All-append (IsMet first.place reads2) (places_told first.place r.reads) children
               (All-weaker (IsMet first.place r.reads) (IsMet first.place reads2) grows
@@ -436,158 +543,229 @@ module _ {P X : Type 0} (tells : P → List X → List P → Type 0) (costs exce
           found = λ x l. elim (found x l) [
             | inl old ↦ (elim (r.found x old) [
               | inl before ↦ inl before
-              | inr s ↦ inr (s.0, Contains-append_left r.reads (read ∷ []) (s.0) (s.1), s.2)
+              | inr s ↦ inr (s.0, Contains-append_left r.reads (now ∷ []) (s.0) (s.1), s.2)
             ])
-            | inr now ↦ inr (read, Contains-push r.reads read, now)
+            | inr new ↦ inr (now, Contains-push r.reads now, new)
           ];
-          kept = All-push (λ s. All has2 s.said) r.reads read
+          kept = All-push (λ s. All has2 s.said) r.reads now
               (All-weaker (λ s. All has s.said) (λ s. All has2 s.said)
               (λ s h. All-weaker has has2 stays s.said h) r.reads r.kept) kept;
           stays = λ x h. stays x (r.stays x h);
           cuts = r.cuts;
           cut = r.cut;
+          cut_met = All-weaker (λ t. IsMet first.place r.reads t.place)
+              (λ t. IsMet first.place reads2 t.place) (λ t h. grows t.place h) r.cuts r.cut_met;
           counts = r.counts;
           exact = omega (
             arith,
             cheap,
             fits,
-            sum_by_push (λ (s : Read P X). s.cost) r.reads read,
+            sum_by_push (λ (s : Read P X). s.cost) r.reads now,
             r.exact,
           );
           full = full-then c;
-          wasted = r.wasted;
-          small = inr all-small;
-          tried = All-push
-              (λ s. IsSmall key exceeds 2 (key s.place) (spent_on key r.cuts (key s.place))) r.reads
-              read r.tried (all-small (key p));
+          small = All-push (λ s. s.cost ≤ spent_on key r.cuts (key s.place) + first_room limit)
+              (r.begun.0) now r.small (omega (arith, cheap, most, r.counts (key p)));
+          rooms = r.rooms;
           left = r.left;
+          wasted = r.wasted;
+          doubles = inr all-small;
+          tried = All-push
+              (λ s. IsSmall key r.cuts 2 (key s.place) (spent_on key r.cuts (key s.place))) r.reads
+              now r.tried (all-small (key p));
+          lacks = r.lacks;
+          lacked = r.lacked;
+          lacked_once = r.lacked_once;
         }
+
+  -- ---- some are passed over, and some left
+  module _ (lists has : X → Type 0) (room : ℕ) (read lacking : List ℕ → Bool)
+      (spent : List ℕ → ℕ) where
+    abbrev At : List (Left P) → List P → Type 0
+    At unread waiting = Run lists has room unread read lacking spent waiting
+
+    abbrev IsLacking : P → Type 0
+    IsLacking p = (¬ IsTrue (read (key p))) × IsTrue (lacking (key p))
+
+    abbrev without : List P → List (Left P)
+    without ps = map (λ p. left_for p Memory 0) ps
+
+    untaken : room - 0 ≡ room
+    untaken = omega arith
+
+    run-untried : (p : P) (unread : List (Left P)) (waiting : List P) → At unread (p ∷ waiting)
+        → ¬ IsTrue (read (key p)) → (why : Why) → IsLastTry limit (spent (key p)) why 0
+        → (why ≡ Limit → room ≡ 0) → (why ≡ Memory → IsTrue (lacking (key p)))
+        → At (unread ++ left_for p why 0 ∷ []) waiting
+    run-untried p unread waiting r unknown why last full memory =
+        subst (λ (m : ℕ). Run lists has m (unread ++ left_for p why 0 ∷ []) read lacking spent
+        waiting) untaken
+        (run-left lists has room unread read lacking spent p waiting r unknown why 0 lacking
+        (omega arith) last full memory (inl (refl, refl)))
+
+    run-lacking : (ps : List P) (unread : List (Left P)) (waiting : List P)
+        → At unread (ps ++ waiting) → ((p : P) → Contains ps p → IsLacking p)
+        → At (unread ++ without ps) waiting
+    run-lacking [] unread waiting r h =
+        subst (λ (l : List (Left P)). At l waiting) (sym (append-nil unread)) r
+    run-lacking (p ∷ ps) unread waiting r h =
+        let now = h p (contains-first p ps) in
+        subst (λ (l : List (Left P)). At l waiting)
+        (append_assoc unread (left_for p Memory 0 ∷ []) (without ps))
+        (run-lacking ps (unread ++ left_for p Memory 0 ∷ []) waiting
+        (run-untried p unread (ps ++ waiting) r (now.0) Memory (omega arith) (λ l. cc)
+        (λ m. now.1)) (λ q c. h q (contains-rest p q ps c)))
+
+    pub run-passed : (unread unread2 : List (Left P)) (waiting waiting2 : List P)
+        → At unread waiting → ArePassed key read lacking unread unread2 waiting waiting2
+        → At unread2 waiting2
+    run-passed unread unread3 waiting waiting2 r a =
+        subst (λ (l : List (Left P)). At l waiting2) (sym a.now)
+        (run-lacking a.left unread waiting2
+        (run-over lists has room unread read lacking spent waiting a.passed (a.left ++ waiting2) r
+        a.over a.split) (λ p c. All-contains IsLacking a.left p a.lack c))
+
+    -- ---- no more is read: one that waits is left for the limit
+    pub run-limited : (unread mid-unread unread2 : List (Left P)) (waiting waiting2 : List P)
+        (p : P) (k : List ℕ) → At unread waiting → (room ≡ 0) ⊎ (waiting ≡ [])
+        → IsTurn key read lacking unread mid-unread waiting waiting2 p k
+        → unread2 ≡ mid-unread ++ left_for p Limit 0 ∷ []
+        → At unread2 waiting2 × (room ≡ 0)
+    run-limited unread mid-unread unread2 waiting waiting2 p k r stop n u = (
+      subst (λ (l : List (Left P)). At l waiting2) (sym u)
+          (run-untried p mid-unread waiting2
+          (run-passed unread mid-unread waiting (p ∷ waiting2) r n.passed)
+          (subst (λ (j : List ℕ). ¬ IsTrue (read j)) n.its n.fresh) Limit refl (λ l. none-left)
+          (λ l. cc)),
+      none-left,
+    )
+      where
+        none-left : room ≡ 0
+        none-left = elim stop [
+          | inl z ↦ z
+          | inr e ↦ absurd (omega (
+            arith,
+            length_permutation waiting (n.passed.passed ++ (n.passed.left ++ p ∷ waiting2))
+                n.passed.split,
+            ap (λ (l : List P). length l) e,
+            length-append n.passed.passed (n.passed.left ++ p ∷ waiting2),
+            length-append n.passed.left (p ∷ waiting2),
+          ))
+        ]
 
   -- ---- the turn of a place came
   module _ {F : Type 0} (lists has : F → X → Type 0) (found found2 : F) (room : ℕ)
-      (unread unread2 : List (Left P)) (settled settled2 : List ℕ → Bool)
-      (spent spent2 : List ℕ → ℕ) (p : P) (k : List ℕ) (waiting waiting0 waiting2 : List P)
-      (allowed done : ℕ) (r0 : Run (lists found) (has found) room unread settled spent waiting0)
-      (n : IsTurn key settled waiting0 waiting p k) (some : 0 < allowed) (fits : allowed ≤ room)
-      (most : allowed ≤ spent k + first_room limit)
+      (unread0 unread unread2 : List (Left P)) (read read2 lacking lacking2 : List ℕ → Bool)
+      (spent spent2 : List ℕ → ℕ) (p : P) (k : List ℕ) (waiting0 waiting waiting2 : List P)
+      (allowed done : ℕ)
+      (r0 : Run (lists found) (has found) room unread0 read lacking spent waiting0)
+      (n : IsTurn key read lacking unread0 unread waiting0 waiting p k) (some : 0 < allowed)
+      (fits : allowed ≤ room) (most : allowed ≤ spent k + first_room limit)
       (grows : (allowed ≡ room) ⊎ (spent k < allowed)) where
-    r : Run (lists found) (has found) room unread settled spent (p ∷ waiting)
-    r = run-passed (lists found) (has found) room unread settled spent waiting0 (p ∷ waiting) r0
-        n.passed
-
-    unknown : ¬ IsTrue (settled (key p))
-    unknown = subst (λ (j : List ℕ). ¬ IsTrue (settled j)) n.its n.unsettled
+    r : Run (lists found) (has found) room unread read lacking spent (p ∷ waiting)
+    r = run-passed (lists found) (has found) room read lacking spent unread0 unread waiting0
+        (p ∷ waiting) r0 n.passed
 
     -- with the key of the place in place of the octets
     with-key : (Q : List ℕ → Type 0) → Q k → Q (key p)
     with-key Q h = subst Q n.its h
 
-    abbrev After : F → ℕ → List (Left P) → (List ℕ → Bool) → (List ℕ → ℕ) → List P → Type 0
-    After f n u s t q = Run (lists f) (has f) (room - n) u s t q
+    unknown : ¬ IsTrue (read (key p))
+    unknown = with-key (λ j. ¬ IsTrue (read j)) n.fresh
 
-    left-then : WasLeft p k allowed done found found2 unread unread2 settled settled2 spent spent2
-        waiting waiting2 → After found2 done unread2 settled2 spent2 waiting2
+    untried : ¬ IsTrue (lacking (key p))
+    untried = with-key (λ j. ¬ IsTrue (lacking j)) n.untried
+
+    most-of : allowed ≤ spent (key p) + first_room limit
+    most-of = with-key (λ j. allowed ≤ spent j + first_room limit) most
+
+    abbrev After : F → ℕ → List (Left P) → (List ℕ → Bool) → (List ℕ → Bool) → (List ℕ → ℕ)
+        → List P → Type 0
+    After f n u s l t q = Run (lists f) (has f) (room - n) u s l t q
+
+    left-then : WasLeft p k allowed done found found2 unread unread2 read read2 lacking lacking2
+        spent spent2 waiting waiting2 → After found2 done unread2 read2 lacking2 spent2 waiting2
     left-then u =
-        subst (λ (f : F). After f done unread2 settled2 spent2 waiting2) (sym u.same_found)
-        (subst (λ (n : ℕ). After found n unread2 settled2 spent2 waiting2) (sym u.all)
-        (subst (λ (l : List (Left P)). After found allowed l settled2 spent2 waiting2)
-        (sym u.left.now)
-        (subst (λ (t : List ℕ → ℕ). After found allowed
-        (unread ++ left_for p Memory allowed ∷ []) settled2 t waiting2) (sym u.same_spent)
-        (subst (λ (q : List P). After found allowed (unread ++ left_for p Memory allowed ∷ [])
-        settled2 spent q) (sym u.same_waiting)
-        (run-left (lists found) (has found) room unread settled spent p waiting r unknown Memory
-        allowed settled2 (with-key (λ j. Settles j settled settled2) u.left.settles) fits
-        (some, with-key (λ j. allowed ≤ spent j + first_room limit) most) (λ l. cc))))))
-
-    cut-then : WasCut exceeds p k allowed done found found2 unread unread2 settled settled2 spent
-        spent2 waiting waiting2 → After found2 done unread2 settled2 spent2 waiting2
-    cut-then u =
-        subst (λ (f : F). After f done unread2 settled2 spent2 waiting2) (sym u.same_found)
-        (subst (λ (n : ℕ). After found n unread2 settled2 spent2 waiting2) (sym u.all)
-        (subst (λ (l : List (Left P)). After found allowed l settled2 spent2 waiting2)
-        (sym u.same_left)
-        (subst (λ (s : List ℕ → Bool). After found allowed unread s spent2 waiting2)
-        (sym u.same_settled)
-        (run-passed (lists found) (has found) (room - allowed) unread settled spent2 (p ∷ waiting)
-        waiting2
-        (run-cut (lists found) (has found) room unread settled spent p waiting r unknown allowed
-        some fits u.more spent2 (with-key (λ j. Spends j allowed spent spent2) u.spends)
-        (with-key (λ j. (allowed ≡ room) ⊎ (spent j < allowed)) grows))
-        (passed-to key settled (p ∷ waiting) waiting2 u.waits)))))
-
-    read-then : WasRead tells costs lists has p k allowed done found found2 unread unread2 settled
-        settled2 spent spent2 waiting waiting2 → After found2 done unread2 settled2 spent2 waiting2
-    read-then u =
-        subst (λ (l : List (Left P)). After found2 done l settled2 spent2 waiting2)
-        (sym u.none_left)
-        (subst (λ (t : List ℕ → ℕ). After found2 done unread settled2 t waiting2)
+        subst (λ (f : F). After f done unread2 read2 lacking2 spent2 waiting2) (sym u.same_found)
+        (subst (λ (n : ℕ). After found n unread2 read2 lacking2 spent2 waiting2) (sym u.all)
+        (subst (λ (l : List (Left P)). After found allowed l read2 lacking2 spent2 waiting2)
+        (sym u.now)
+        (subst (λ (s : List ℕ → Bool). After found allowed now s lacking2 spent2 waiting2)
+        (sym u.same_read)
+        (subst (λ (t : List ℕ → ℕ). After found allowed now read lacking2 t waiting2)
         (sym u.same_spent)
-        (run-passed (lists found2) (has found2) (room - done) unread settled2 spent
+        (subst (λ (q : List P). After found allowed now read lacking2 spent q)
+        (sym u.same_waiting)
+        (run-left (lists found) (has found) room unread read lacking spent p waiting r unknown
+        Memory allowed lacking2 fits most-of (λ l. cc) (λ m. (lacks (key p)).1 (inr refl))
+        (inr (some, lacks, untried))))))))
+      where
+        now : List (Left P)
+        now = unread ++ left_for p Memory allowed ∷ []
+
+        lacks : Adds (key p) lacking lacking2
+        lacks = with-key (λ j. Adds j lacking lacking2) u.lacks
+
+    cut-then : WasCut exceeds p k allowed done found found2 unread unread2 read read2 lacking
+        lacking2 spent spent2 waiting waiting2
+        → After found2 done unread2 read2 lacking2 spent2 waiting2
+    cut-then u =
+        subst (λ (f : F). After f done unread2 read2 lacking2 spent2 waiting2) (sym u.same_found)
+        (subst (λ (n : ℕ). After found n unread2 read2 lacking2 spent2 waiting2) (sym u.all)
+        (subst (λ (l : List (Left P)). After found allowed l read2 lacking2 spent2 waiting2)
+        (sym u.same_left)
+        (subst (λ (s : List ℕ → Bool). After found allowed unread s lacking2 spent2 waiting2)
+        (sym u.same_read)
+        (subst (λ (l : List ℕ → Bool). After found allowed unread read l spent2 waiting2)
+        (sym u.same_lacking)
+        (run-order (lists found) (has found) (room - allowed) unread read lacking spent2
+        (p ∷ waiting) waiting2
+        (run-cut (lists found) (has found) room unread read lacking spent p waiting r unknown
+        untried allowed some fits most-of u.more spent2
+        (with-key (λ j. Spends j allowed spent spent2) u.spends)
+        (with-key (λ j. (allowed ≡ room) ⊎ (spent j < allowed)) grows)) u.waits)))))
+
+    read-then : WasRead tells costs lists has p k allowed done found found2 unread unread2 read
+        read2 lacking lacking2 spent spent2 waiting waiting2
+        → After found2 done unread2 read2 lacking2 spent2 waiting2
+    read-then u =
+        subst (λ (l : List (Left P)). After found2 done l read2 lacking2 spent2 waiting2)
+        (sym u.none_left)
+        (subst (λ (l : List ℕ → Bool). After found2 done unread read2 l spent2 waiting2)
+        (sym u.same_lacking)
+        (subst (λ (t : List ℕ → ℕ). After found2 done unread read2 lacking t waiting2)
+        (sym u.same_spent)
+        (run-order (lists found2) (has found2) (room - done) unread read2 lacking spent
         (u.children ++ waiting) waiting2
-        (run-read (lists found) (has found) room unread settled spent p waiting r unknown allowed
-        some fits (lists found2) (has found2) u.said u.children done settled2 u.told u.cost u.fits
-        (with-key (λ j. Settles j settled settled2) u.heard.settles) u.heard.found_now
-        u.heard.stays u.heard.kept)
-        (passed-to key settled2 (u.children ++ waiting) waiting2 u.heard.met)))
+        (run-read (lists found) (has found) room unread read lacking spent p waiting r unknown
+        untried allowed some fits most-of (lists found2) (has found2) u.said u.children done read2
+        u.told u.cost u.fits (with-key (λ j. Adds j read read2) u.heard.reads) u.heard.found_now
+        u.heard.stays u.heard.kept) u.heard.met)))
 
     pub run-visit : IsVisit tells costs exceeds lists has p k allowed done found found2 unread
-        unread2 settled settled2 spent spent2 waiting waiting2
-        → After found2 done unread2 settled2 spent2 waiting2
+        unread2 read read2 lacking lacking2 spent spent2 waiting waiting2
+        → After found2 done unread2 read2 lacking2 spent2 waiting2
     run-visit (inl u) = left-then u
     run-visit (inr (inl u)) = cut-then u
     run-visit (inr (inr u)) = read-then u
 
   -- what was spent on a key and what may be spent is within the limit
   pub run-fits : (lists has : X → Type 0) (room : ℕ) (unread : List (Left P))
-      (settled : List ℕ → Bool) (spent : List ℕ → ℕ) (waiting : List P) (k : List ℕ)
-      (allowed : ℕ) → Run lists has room unread settled spent waiting → allowed ≤ room
+      (read lacking : List ℕ → Bool) (spent : List ℕ → ℕ) (waiting : List P) (k : List ℕ)
+      (allowed : ℕ) → Run lists has room unread read lacking spent waiting → allowed ≤ room
       → spent k + allowed ≤ limit
-  run-fits lists has room unread settled spent waiting k allowed r fits = omega (
+  run-fits lists has room unread read lacking spent waiting k allowed r fits = omega (
     arith,
     fits,
     r.counts k,
-    spent-fits key exceeds r.cuts k,
+    spent-fits key r.cuts k,
     r.exact,
   )
 
-  -- ---- no more is read: one that waits is left for the limit
-  pub run-limited : (lists has : X → Type 0) (room : ℕ) (unread unread2 : List (Left P))
-      (settled settled2 : List ℕ → Bool) (spent : List ℕ → ℕ) (waiting waiting2 : List P) (p : P)
-      (k : List ℕ) → Run lists has room unread settled spent waiting
-      → (room ≡ 0) ⊎ (waiting ≡ []) → IsTurn key settled waiting waiting2 p k
-      → IsLeftFor p k Limit 0 unread unread2 settled settled2
-      → Run lists has room unread2 settled2 spent waiting2 × (room ≡ 0)
-  run-limited lists has room unread unread2 settled settled2 spent waiting waiting2 p k r stop n
-      u = (
-        subst (λ (l : List (Left P)). Run lists has room l settled2 spent waiting2) (sym u.now)
-            (subst (λ (m : ℕ). Run lists has m (unread ++ left_for p Limit 0 ∷ []) settled2 spent
-            waiting2) same-room
-            (run-left lists has room unread settled spent p waiting2
-            (run-passed lists has room unread settled spent waiting (p ∷ waiting2) r n.passed)
-            (subst (λ (j : List ℕ). ¬ IsTrue (settled j)) n.its n.unsettled) Limit 0 settled2
-            (subst (λ (j : List ℕ). Settles j settled settled2) n.its u.settles) (omega arith) refl
-            (λ l. none-left))),
-        none-left,
-      )
-    where
-      same-room : room - 0 ≡ room
-      same-room = omega arith
-
-      none-left : room ≡ 0
-      none-left = elim stop [
-        | inl z ↦ z
-        | inr e ↦ absurd (omega (
-          arith,
-          length_permutation waiting (n.passed.passed ++ p ∷ waiting2) n.passed.split,
-          ap (λ (l : List P). length l) e,
-          length-append n.passed.passed (p ∷ waiting2),
-        ))
-      ]
-
   -- ---- none waits
-  module _ (lists has : X → Type 0) (room : ℕ) (unread : List (Left P)) (settled : List ℕ → Bool)
-      (spent : List ℕ → ℕ) (r : Run lists has room unread settled spent []) where
+  module _ (lists has : X → Type 0) (room : ℕ) (unread : List (Left P))
+      (read lacking : List ℕ → Bool) (spent : List ℕ → ℕ)
+      (r : Run lists has room unread read lacking spent []) where
     abbrev places : List P
     places = places_settled r.reads unread
 
@@ -595,13 +773,20 @@ module _ {P X : Type 0} (tells : P → List X → List P → Type 0) (costs exce
     order = subst (λ (l : List P). IsPermutation (places_told first.place r.reads) (places ++ l))
         (append-nil r.passed) r.split
 
-    -- a place that was told is settled, or one with its key is
-    told-settled : (p : P) → Contains (places_told first.place r.reads) p
-        → HasKey key places (key p)
-    told-settled p c = elim (Contains-append_cases places r.passed p
+    abbrev IsClosed : P → Type 0
+    IsClosed c = HasKey key (places_read r.reads) (key c) ⊎ Contains (places_left unread) c
+
+    -- a place that was told was left, or one with its key was read
+    told-closed : (p : P) → Contains (places_told first.place r.reads) p → IsClosed p
+    told-closed p c = elim (Contains-append_cases places r.passed p
         (Contains-permutation (places_told first.place r.reads) (places ++ r.passed) p order c)) [
-          | inl here ↦ (p, here, refl)
-          | inr over ↦ All-contains (λ q. HasKey key places (key q)) r.passed p r.over over
+          | inl here ↦ (elim (Contains-append_cases (places_read r.reads) (places_left unread) p
+              here) [
+                | inl done ↦ inl (p, done, refl)
+                | inr left ↦ inr left
+              ])
+          | inr over ↦ inl (All-contains (λ q. HasKey key (places_read r.reads) (key q)) r.passed p
+              r.over over)
         ]
 
     child-told : (s : Read P X) → Contains r.reads s → (c : P) → Contains s.children c
@@ -615,26 +800,36 @@ module _ {P X : Type 0} (tells : P → List X → List P → Type 0) (costs exce
       begun = r.begun;
       told = r.told;
       cost = r.cost;
-      once = AllPairs-from_IsDistinct bytes_eq-Decides (map key places) r.once.distinct;
+      once = AllPairs-from_IsDistinct bytes_eq-Decides (map key (places_read r.reads))
+          r.once.distinct;
       passed = r.passed;
       over = r.over;
+      fresh = All-weaker (λ u. ¬ IsTrue (read (key u.place)))
+          (λ u. ¬ HasKey key (places_read r.reads) (key u.place))
+          (λ u h w. h ((r.once.keyed (key u.place)).1 w)) unread r.fresh;
       split = order;
       met = all-front (IsMet first.place r.reads) places r.passed
           (All-permutation (IsMet first.place r.reads) (places_told first.place r.reads)
           (places ++ r.passed) order r.reached);
-      closed = all-of (λ s. All (λ c. HasKey key places (key c)) s.children) r.reads (λ s i.
-          all-of (λ c. HasKey key places (key c)) s.children (λ c h.
-          told-settled c (child-told s i c h)));
+      closed = all-of (λ s. All IsClosed s.children) r.reads (λ s i.
+          all-of IsClosed s.children (λ c h. told-closed c (child-told s i c h)));
       found = r.found;
       kept = r.kept;
       stays = r.stays;
       cuts = r.cuts;
       cut = r.cut;
+      cut_met = r.cut_met;
       within = omega (arith, r.exact);
       full = All-weaker (λ u. u.why ≡ Limit → room ≡ 0)
           (λ u. u.why ≡ Limit → total r.reads unread r.cuts ≡ limit)
           (λ u h l. omega (arith, r.exact, h l)) unread r.full;
+      small = r.small;
+      rooms = r.rooms;
+      left = r.left;
       wasted = r.wasted;
       tried = r.tried;
-      left = r.left;
+      lacked = All-weaker (λ u. u.why ≡ Memory → IsTrue (lacking (key u.place)))
+          (λ u. u.why ≡ Memory → HasLacked key unread (key u.place))
+          (λ u h m. (r.lacks (key u.place)).0 (h m)) unread r.lacked;
+      lacked_once = r.lacked_once;
     }

@@ -14,7 +14,7 @@ pub record Read (P X : Type 0) : Type 0 where
   pub cost : ℕ
 
 -- a place that was met and left unread, and how much its last try took, for which there was no
--- memory
+-- memory: none, if it had no such try
 pub record Left (P : Type 0) : Type 0 where
   pub place : P
   pub why : Why
@@ -68,18 +68,23 @@ IsMet {P} start reads p = (path : List P) × Leads (IsToldChild reads) start pat
 abbrev pub HasKey : {P : Type 0} → (P → List ℕ) → List P → List ℕ → Type 0
 HasKey {P} key places k = (p : P) × Contains places p × (key p ≡ k)
 
--- Nothing was spent on tries of places with the key, or at most so many times what reading one of
--- them exceeds.
-abbrev pub IsSmall : {P : Type 0} → (P → List ℕ) → (P → ℕ → Type 0) → ℕ → List ℕ → ℕ → Type 0
-IsSmall {P} key exceeds times k spent = (spent ≡ 0)
-    ⊎ ((p : P) × (n : ℕ) × (key p ≡ k) × exceeds p n × (spent ≤ times * n))
+-- Nothing was spent on tries of places with the key, or at most so many times the room of one of
+-- these tries, which was cut.
+abbrev pub IsSmall : {P : Type 0} → (P → List ℕ) → List (Try P) → ℕ → List ℕ → ℕ → Type 0
+IsSmall {P} key cuts times k spent = (spent ≡ 0)
+    ⊎ ((t : Try P) × Contains cuts t × (key t.place ≡ k) × (spent ≤ times * t.room))
+
+-- A place with the key was tried, for which there was no memory.
+abbrev pub HasLacked : {P : Type 0} → (P → List ℕ) → List (Left P) → List ℕ → Type 0
+HasLacked {P} key unread k =
+    (u : Left P) × Contains unread u × (key u.place ≡ k) × (0 < u.tried)
 
 -- How much the last try of a place took that was left for this: there was none, where no work was
 -- left for it; where memory was wanting, it had as much room as cut tries of its key had taken, and
 -- the first room, at most.
 abbrev pub IsLastTry : ℕ → ℕ → Why → ℕ → Type 0
 IsLastTry limit spent Limit tried = tried ≡ 0
-IsLastTry limit spent Memory tried = (0 < tried) × (tried ≤ spent + first_room limit)
+IsLastTry limit spent Memory tried = tried ≤ spent + first_room limit
 
 -- What was read, this first, and what was found and left unread then.
 pub record IsWalk {P X : Type 0} (tells : P → List X → List P → Type 0)
@@ -91,15 +96,18 @@ pub record IsWalk {P X : Type 0} (tells : P → List X → List P → Type 0)
   -- each told what it tells, and cost what it costs
   pub told : All (λ r. tells r.place r.said r.children) reads
   pub cost : All (λ r. costs r.place r.cost) reads
-  -- of each key one place was read or left, and others were passed over
-  pub once : AllPairs (λ k l. k ≢ l) (map key (places_settled reads unread))
+  -- of each key one place was read; others were passed over, and none was left unread
+  pub once : AllPairs (λ k l. k ≢ l) (map key (places_read reads))
   pub passed : List P
-  pub over : All (λ p. HasKey key (places_settled reads unread) (key p)) passed
-  -- all that was met was read, left or passed over: the start, and each child of what was read
+  pub over : All (λ p. HasKey key (places_read reads) (key p)) passed
+  pub fresh : All (λ u. ¬ HasKey key (places_read reads) (key u.place)) unread
+  -- all that was met was read, left or passed over: the start, and each child of what was read; a
+  -- child was left, or one with its key was read
   pub split : IsPermutation (places_told first.place reads) (places_settled reads unread ++ passed)
   pub met : All (IsMet first.place reads) (places_settled reads unread)
-  pub closed : All (λ r. All (λ c. HasKey key (places_settled reads unread) (key c)) r.children)
-      reads
+  pub closed :
+      All (λ r. All (λ c. HasKey key (places_read reads) (key c) ⊎ Contains (places_left unread) c)
+      r.children) reads
   -- what was said was found, and nothing else
   pub found : (x : X) → lists x → listed x ⊎ ((r : Read P X) × Contains reads r × Contains r.said x)
   pub kept : All (λ r. All has r.said) reads
@@ -107,10 +115,19 @@ pub record IsWalk {P X : Type 0} (tells : P → List X → List P → Type 0)
   -- all work was within the limit, and a place was left for it only where it was spent
   pub cuts : List (Try P)
   pub cut : All (λ t. exceeds t.place t.room) cuts
+  pub cut_met : All (λ t. IsMet first.place reads t.place) cuts
   pub within : total reads unread cuts ≤ limit
   pub full : All (λ u. u.why ≡ Limit → total reads unread cuts ≡ limit) unread
+  -- each read but the first, and each try, had as much room as was spent on tries of its key before,
+  -- and the first room, at most
+  pub small : All (λ r. r.cost ≤ spent_on key cuts (key r.place) + first_room limit) (begun.0)
+  pub rooms : All (λ t. 2 * t.room ≤ spent_on key cuts (key t.place) + first_room limit) cuts
+  pub left : All (λ u. IsLastTry limit (spent_on key cuts (key u.place)) u.why u.tried) unread
   -- what was spent on tries of a key is little beside what reading one of its places costs, however
   -- often it was told
-  pub wasted : (k : List ℕ) → IsSmall key exceeds 3 k (spent_on key cuts k)
-  pub tried : All (λ r. IsSmall key exceeds 2 (key r.place) (spent_on key cuts (key r.place))) reads
-  pub left : All (λ u. IsLastTry limit (spent_on key cuts (key u.place)) u.why u.tried) unread
+  pub wasted : (k : List ℕ) → IsSmall key cuts 3 k (spent_on key cuts k)
+  pub tried : All (λ r. IsSmall key cuts 2 (key r.place) (spent_on key cuts (key r.place))) reads
+  -- a place was left for memory only where a try of its key lacked it: one try of each key
+  pub lacked : All (λ u. u.why ≡ Memory → HasLacked key unread (key u.place)) unread
+  pub lacked_once :
+      AllPairs (λ u v. 0 < u.tried → 0 < v.tried → key u.place ≢ key v.place) unread

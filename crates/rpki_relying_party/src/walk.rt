@@ -1,12 +1,12 @@
-//! A walk over places, of each key of which one is read or left unread.
+//! A walk over places, of each key of which one is read.
 
 ghost use Rattle.std.specs.Prelude.{◌≡◌, ◌⊎◌, ℕ, ◌<◌, ◌≤◌, ◌∷◌, [], List, IfOk, OnOk};
-ghost use Rattle.std.specs.Prelude.{◌+◌, ◌/◌, ◌^◌, IsTrue, IsPermutation, MatchOption};
+ghost use Rattle.std.specs.Prelude.{◌+◌, ◌/◌, ◌++◌, ◌^◌, IsTrue, IsPermutation, MatchOption};
 ghost use Rattle.rpki_relying_party.specs.Paths.{IsSaid, IsFound, IsChild, Leads, TellsOne, Passes};
 ghost use Rattle.rpki_relying_party.specs.Walk.{IsWalk, places_left, first_room};
 ghost use Rattle.rpki_relying_party.specs.Steps.{has_key, spent_for, read_as, IsTelling};
-ghost use Rattle.rpki_relying_party.specs.Steps.{Settles, Spends, AreMet, IsHeard, ArePassed};
-ghost use Rattle.rpki_relying_party.specs.Steps.{IsTurn, IsLeftFor, IsVisit};
+ghost use Rattle.rpki_relying_party.specs.Steps.{Adds, Spends, AreMet, IsHeard, ArePassed, IsTurn};
+ghost use Rattle.rpki_relying_party.specs.Steps.{IsVisit, passed_by};
 
 use crate::places::{Places, Reading, Told};
 use crate::queue::{Queue, Turn};
@@ -29,7 +29,7 @@ pub struct Unread<P> {
     pub place: P,
     pub why: Why,
     /// How much of the limit its last try took, for which there was no memory: none, where it was
-    /// left for the limit.
+    /// left for the limit, or where there was no memory for another place with its key.
     pub tried: u64,
 }
 
@@ -41,11 +41,12 @@ impl<P> Model for Unread<P> {
     ghost view = { λ u. record { place = u.place; why = u.why; tried = u.tried } };
 }
 
-// The keys of the places that were read or left, how much was spent on cut tries of each key, and
-// the places that wait.
+// The keys of the places that were read, those for which there was no memory, how much was spent on
+// cut tries of each key, and the places that wait.
 #[derive(Drop)]
 struct Front<P> {
-    settled: BTreeSet<Vec<u8>>,
+    read: BTreeSet<Vec<u8>>,
+    lacking: BTreeSet<Vec<u8>>,
     spent: BTreeMap<Vec<u8>, u64>,
     queue: Queue<P>,
 }
@@ -58,11 +59,11 @@ struct Due<P> {
     key: Vec<u8>,
 }
 
-// A place with this key is read or left.
-fn settle(settled: &mut BTreeSet<Vec<u8>>, key: Vec<u8>) -> Result<(), AllocError>
-    ensures { OnOk result (Settles key.items (has_key settled.old) (has_key settled.new)) }
+// One key more.
+fn add(keys: &mut BTreeSet<Vec<u8>>, key: Vec<u8>) -> Result<(), AllocError>
+    ensures { OnOk result (Adds key.items (has_key keys.old) (has_key keys.new)) }
 {
-    settled.insert(key)?;
+    keys.insert(key)?;
     Ok(())
 }
 
@@ -111,33 +112,17 @@ fn hear<P: Places>(
     found: &mut P::Found,
 ) -> Result<(), AllocError>
     ensures heard { OnOk result (IsHeard P.lists P.has due.key.items told.said.items
-        told.children.items found.old found.new (has_key front.old.settled)
-        (has_key front.new.settled) front.old.queue front.new.queue) }
+        told.children.items found.old found.new (has_key front.old.read) (has_key front.new.read)
+        front.old.queue front.new.queue) }
+    ensures lacking { OnOk result (front.new.lacking ≡ front.old.lacking) }
     ensures spent { OnOk result (front.new.spent ≡ front.old.spent) }
 {
     let Due { place, branch, key } = due;
     let Told { said, children, .. } = told;
     drop(place);
-    settle(&mut front.settled, key)?;
+    add(&mut front.read, key)?;
     places.keep(alloc, said, found)?;
     meet_all(alloc, children, branch, &mut front.queue)
-}
-
-// A place is left unread, after a last try that took so much.
-fn leave<P: Drop>(
-    due: Due<P>,
-    why: Why,
-    tried: u64,
-    settled: &mut BTreeSet<Vec<u8>>,
-    unread: &mut Vec<Unread<P>>,
-) -> Result<(), AllocError>
-    ensures { OnOk result (IsLeftFor due.place due.key.items why tried unread.old.items
-        unread.new.items (has_key settled.old) (has_key settled.new)) }
-{
-    let Due { place, key, .. } = due;
-    settle(settled, key)?;
-    unread.push(Unread { place, why, tried })?;
-    Ok(())
 }
 
 // Tries to read a place within this room: how much was spent on it.
@@ -153,12 +138,19 @@ fn visit<P: Places>(
     requires { spent_for front.now.spent due.key.items + room < 2 ^ 64 }
     ensures { IfOk result (λ done. IsVisit (P.tells places.now) (P.costs places.now)
         (P.exceeds places.now) P.lists P.has due.place due.key.items room done found.old found.new
-        unread.old.items unread.new.items (has_key front.old.settled) (has_key front.new.settled)
-        (spent_for front.old.spent) (spent_for front.new.spent) front.old.queue front.new.queue) }
+        unread.old.items unread.new.items (has_key front.old.read) (has_key front.new.read)
+        (has_key front.old.lacking) (has_key front.new.lacking) (spent_for front.old.spent)
+        (spent_for front.new.spent) front.old.queue front.new.queue) }
 {
     match places.read(alloc, &due.place, room) {
         Err(_) => {
-            leave(due, Why::Memory, room, &mut front.settled, unread)?;
+            let Due { place, key, .. } = due;
+            add(&mut front.lacking, key)?;
+            unread.push(Unread {
+                place,
+                why: Why::Memory,
+                tried: room,
+            })?;
             Ok(room)
         }
         Ok(Reading::Cut) => {
@@ -175,27 +167,48 @@ fn visit<P: Places>(
     }
 }
 
-// The place whose turn it is, of those whose keys are not settled. The others are passed over.
+// A place is passed over, since one with its key was read; or it is left unread, since there was no
+// memory for one.
+fn pass_by<P: Drop>(place: P, is_read: bool, unread: &mut Vec<Unread<P>>) -> Result<(), AllocError>
+    ensures { OnOk result (unread.new.items ≡ unread.old.items ++ passed_by place is_read) }
+{
+    if is_read {
+        drop(place);
+        return Ok(());
+    }
+    unread.push(Unread {
+        place,
+        why: Why::Memory,
+        tried: 0,
+    })?;
+    Ok(())
+}
+
+// The place whose turn it is, of those that are still to be tried. The others are passed over, or
+// left unread.
 fn next_due<P: Places>(
     alloc: Global,
     places: &P,
-    settled: &BTreeSet<Vec<u8>>,
+    read: &BTreeSet<Vec<u8>>,
+    lacking: &BTreeSet<Vec<u8>>,
     queue: &mut Queue<P::Place>,
+    unread: &mut Vec<Unread<P::Place>>,
 ) -> Result<Option<Due<P::Place>>, AllocError>
     ensures { IfOk result (λ next. MatchOption next
-        (ArePassed (P.key_of places.now) (has_key settled.now) queue.old queue.new
-        × (queue.new ≡ []))
-        (λ due. IsTurn (P.key_of places.now) (has_key settled.now) queue.old queue.new due.place
-        due.key.items)) }
+        (ArePassed (P.key_of places.now) (has_key read.now) (has_key lacking.now) unread.old.items
+        unread.new.items queue.old queue.new × (queue.new ≡ []))
+        (λ due. IsTurn (P.key_of places.now) (has_key read.now) (has_key lacking.now)
+        unread.old.items unread.new.items queue.old queue.new due.place due.key.items)) }
 {
     while let Some(turn) = queue.take() {
-        let key = places.key(alloc, &turn.place)?;
-        if !settled.contains(&key) {
-            let Turn { place, branch } = turn;
+        let Turn { place, branch } = turn;
+        let key = places.key(alloc, &place)?;
+        let is_read = read.contains(&key);
+        if !is_read && !lacking.contains(&key) {
             return Ok(Some(Due { place, branch, key }));
         }
-        queue.spend(turn.branch, 0)?;
-        drop(turn);
+        pass_by(place, is_read, unread)?;
+        queue.spend(branch, 0)?;
     }
     Ok(None)
 }
@@ -204,20 +217,23 @@ fn next_due<P: Places>(
 fn next_turn<P: Places>(
     alloc: Global,
     places: &P,
-    settled: &BTreeSet<Vec<u8>>,
+    read: &BTreeSet<Vec<u8>>,
+    lacking: &BTreeSet<Vec<u8>>,
     queue: &mut Queue<P::Place>,
     room: u64,
+    unread: &mut Vec<Unread<P::Place>>,
 ) -> Result<Option<Due<P::Place>>, AllocError>
     ensures { IfOk result (λ next. MatchOption next
-        (ArePassed (P.key_of places.now) (has_key settled.now) queue.old queue.new
-        × ((room ≡ 0) ⊎ (queue.new ≡ [])))
-        (λ due. IsTurn (P.key_of places.now) (has_key settled.now) queue.old queue.new due.place
-        due.key.items × (0 < room))) }
+        (ArePassed (P.key_of places.now) (has_key read.now) (has_key lacking.now) unread.old.items
+        unread.new.items queue.old queue.new × ((room ≡ 0) ⊎ (queue.new ≡ [])))
+        (λ due. IsTurn (P.key_of places.now) (has_key read.now) (has_key lacking.now)
+        unread.old.items unread.new.items queue.old queue.new due.place due.key.items
+        × (0 < room))) }
 {
     if room == 0 {
         return Ok(None);
     }
-    next_due(alloc, places, settled, queue)
+    next_due(alloc, places, read, lacking, queue, unread)
 }
 
 // The room for a try: as much again as was spent on tries of the key, and the first room, so that
@@ -237,9 +253,10 @@ fn room_for(spent: u64, limit: u64, left: u64) -> u64
 /// and so on. What the places say is put to `found`; the answer is the places that were met and
 /// left unread.
 ///
-/// Of each key one place is read, or left unread. Other places with the key are passed over,
-/// whichever place told of them. One is left for the limit only where the whole limit is spent. One
-/// for which memory is wanting is left at once, and all its room counts as spent.
+/// Of each key one place is read, and others are passed over, whichever place told of them. Of a key
+/// of which none was read each place is left unread, as often as it was told: for the limit, only
+/// where the whole limit is spent; or for memory, where a try of the key lacked it. That try counts
+/// as all its room, and the key is not tried again.
 ///
 /// All work together is at most `limit`. A key is first tried with room for an 8192nd part of it,
 /// and one. A place whose reading is cut waits again. What was spent on it belongs to its key: the
@@ -279,10 +296,15 @@ pub fn walk_from<P: Places>(
         → IsFound (P.tells places.now) P.alike (P.has found.new) p
         ⊎ Passes (P.key_of places.now) (places_left unread.items) start path) }
 {
-    let (settled, spent) = (BTreeSet::new(alloc), BTreeMap::new(alloc));
+    let (read, lacking, spent) = (
+        BTreeSet::new(alloc),
+        BTreeSet::new(alloc),
+        BTreeMap::new(alloc),
+    );
     let queue = Queue::new(alloc)?;
     let mut front = Front {
-        settled,
+        read,
+        lacking,
         spent,
         queue,
     };
@@ -295,16 +317,35 @@ pub fn walk_from<P: Places>(
         key,
     };
     hear(alloc, places, first, told, &mut front, found)?;
-    while let Some(due) = next_turn(alloc, places, &front.settled, &mut front.queue, room)? {
+    while let Some(due) = next_turn(
+        alloc,
+        places,
+        &front.read,
+        &front.lacking,
+        &mut front.queue,
+        room,
+        &mut unread,
+    )? {
         let branch = due.branch;
         let allowed = room_for(spent_on(&front.spent, due.key.as_slice()), limit, room);
         let done = visit(alloc, places, due, allowed, &mut front, found, &mut unread)?;
         front.queue.spend(branch, done)?;
         room -= done;
     }
-    while let Some(due) = next_due(alloc, places, &front.settled, &mut front.queue)? {
-        let branch = due.branch;
-        leave(due, Why::Limit, 0, &mut front.settled, &mut unread)?;
+    while let Some(due) = next_due(
+        alloc,
+        places,
+        &front.read,
+        &front.lacking,
+        &mut front.queue,
+        &mut unread,
+    )? {
+        let Due { place, branch, .. } = due;
+        unread.push(Unread {
+            place,
+            why: Why::Limit,
+            tried: 0,
+        })?;
         front.queue.spend(branch, 0)?;
     }
     drop(front);

@@ -11,7 +11,7 @@ invariant-loop-unread g l =
     (g.P.Places.exceeds l.places) (g.P.Places.key_of l.places)
     (g.P.Places.lists l.fn.found) (g.P.Places.lists l.found) (g.P.Places.has l.fn.found)
     (g.P.Places.has l.found) (read_as l.fn.start l.fn.told) l.limit l.room l.unread.items
-    (has_key l.front.settled) (spent_for l.front.spent) l.front.queue
+    (has_key l.front.read) (has_key l.front.lacking) (spent_for l.front.spent) l.front.queue
 
 abbrev pub decreases-loop-unread : goal.decreases-loop-unread
 decreases-loop-unread g l = l.room
@@ -23,7 +23,7 @@ invariant-loop-unread-2 g l = record {
       (g.P.Places.exceeds l.places) (g.P.Places.key_of l.places)
       (g.P.Places.lists l.fn.found) (g.P.Places.lists l.found) (g.P.Places.has l.fn.found)
       (g.P.Places.has l.found) (read_as l.fn.start l.fn.told) l.limit l.room l.unread.items
-      (has_key l.front.settled) (spent_for l.front.spent) l.front.queue;
+      (has_key l.front.read) (has_key l.front.lacking) (spent_for l.front.spent) l.front.queue;
   stop : (l.room ≡ 0) ⊎ (l.front.queue ≡ []);
 }
 
