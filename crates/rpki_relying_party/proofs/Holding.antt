@@ -29,7 +29,7 @@ use Rattle.rpki_relying_party.specs.Anchors.{IsAnchorOf}
 use Rattle.rpki_relying_party.specs.Paths.{Leads}
 use Rattle.rpki_relying_party.specs.Point.{Point, IsPointIn, HasGood, IsUnrevoked}
 use Rattle.rpki_relying_party.specs.Published.{IsPointOf, PublishedFile, IsPublished, held_by}
-use Rattle.rpki_relying_party.specs.Published.{PublishesPayload, PublishesCa, IsPayloadBelow}
+use Rattle.rpki_relying_party.specs.Published.{PublishesPayload, PublishesCa}
 use Rattle.rpki_relying_party.specs.Published.{at_moment}
 use Rattle.rpki_relying_party.specs.Setting.{Setting, IsWithin}
 use Rattle.rpki_relying_party.specs.Tells.{HasContent, HasCa, earlier, until_of}

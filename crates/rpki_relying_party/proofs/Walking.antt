@@ -11,7 +11,7 @@ use Rattle.std.proofs.lemmas.List.Elements.{All-nil, All-cons, All-push, All-app
 use Rattle.std.proofs.lemmas.List.Elements.{All-contains, Contains-append_left}
 use Rattle.std.proofs.lemmas.List.Elements.{Contains-append_right, Contains-append_cases}
 use Rattle.std.proofs.lemmas.List.Elements.{Contains-push, Contains-get_or}
-use Rattle.std.proofs.lemmas.List.Sorted.{IsPermutation-refl, IsPermutation-sym}
+use Rattle.std.proofs.lemmas.List.Sorted.{IsPermutation-sym}
 use Rattle.std.proofs.lemmas.List.Sorted.{IsPermutation-cons, All-permutation}
 use Rattle.std.proofs.lemmas.List.Sorted.{Contains-permutation, length_permutation}
 use Rattle.std.proofs.lemmas.Map.Made.{AllPairs-from_IsDistinct}

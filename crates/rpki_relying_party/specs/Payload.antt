@@ -14,7 +14,6 @@ use Rattle.rpki_relying_party.specs.declared.payload.Origin.{Origin}
 use Rattle.rpki_relying_party.specs.declared.payload.Payload.{Payload}
 use Rattle.rpki_relying_party.specs.declared.payload.Payload.TheVariants as payloads
 use Rattle.rpki_relying_party.specs.declared.payloads.Payloads.{Payloads}
-use Rattle.rpki_relying_party.specs.declared.payload.Provider.{Provider}
 
 -- The number of the family in the registry of address families (RFC 3779, section 2.2.3.3).
 abbrev pub family_number : AddressFamily → ℕ
