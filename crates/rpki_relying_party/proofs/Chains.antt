@@ -2,8 +2,7 @@
 use Rattle.std.proofs.Common.{◌≡◌, ◌⊎◌, inl, inr, ℕ, List, [], ◌∷◌, ◌++◌, Contains, All, sym}
 use Rattle.std.proofs.Common.{subst, ap, refl, ◌∙◌}
 use Rattle.std.specs.List.{AllZip}
-use Rattle.std.proofs.lemmas.List.Elements.{All-contains, Contains-append_cases}
-use Rattle.std.proofs.lemmas.List.Elements.{Contains-append_left}
+use Rattle.std.proofs.lemmas.List.Elements.{All-contains, Contains-append_left}
 use Rattle.rpki_relying_party.specs.Paths.{IsChild, Leads, IsFound, IsSaid, TellsOne, Passes}
 use Rattle.rpki_relying_party.specs.Walk.{Read, Left, IsToldChild, IsMet, HasKey, IsWalk}
 use Rattle.rpki_relying_party.specs.Walk.{places_read, places_left}

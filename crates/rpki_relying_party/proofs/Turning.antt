@@ -20,7 +20,7 @@ use Rattle.rpki_relying_party.specs.Walk.{IsSmall, HasLacked, IsLastTry, places_
 use Rattle.rpki_relying_party.specs.Walk.{places_settled, places_told, spent_on, total, first_room}
 use Rattle.rpki_relying_party.specs.Steps.{Adds, ArePassed, IsTurn, IsVisit, WasLeft, WasCut}
 use Rattle.rpki_relying_party.specs.Steps.{WasRead, Spends, left_for}
-use Rattle.rpki_relying_party.proofs.Lists.{nothing, all-of, contains-first, contains-rest}
+use Rattle.rpki_relying_party.proofs.Lists.{all-of, contains-first, contains-rest}
 use Rattle.rpki_relying_party.proofs.Lists.{contains-mapped, all-front, contains-flat, push-cases}
 use Rattle.rpki_relying_party.proofs.Settling.{AreKeyed, differ, one-key, one-read, one-left}
 use Rattle.rpki_relying_party.proofs.Settling.{order-passed, order-settled, order-met}

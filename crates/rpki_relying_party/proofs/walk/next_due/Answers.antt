@@ -1,5 +1,5 @@
 -- One more is passed over or left, or has its turn.
-use Rattle.std.proofs.Common.{◌≡◌, ℕ, List, ◌∷◌, length, false, sym, arith, ap, subst, ◌∙◌}
+use Rattle.std.proofs.Common.{ℕ, List, ◌∷◌, length, sym, arith, ap, subst, ◌∙◌}
 use Rattle.std.proofs.lemmas.Bool.{true≢false}
 use Rattle.std.proofs.lemmas.List.Sorted.{length_permutation}
 use Rattle.std.specs.Prelude.{IsTrue}
