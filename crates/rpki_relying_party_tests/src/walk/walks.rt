@@ -168,9 +168,8 @@ fn walked(
         Reading::Cut => Err(AllocError),
         Reading::Told(told) => {
             let unread = walk_from(alloc, numbers, 0, told, limit, found)?;
-            if unread
-                .iter()
-                .any(|left| left.why == Why::Memory && numbers.large != Some(left.place))
+            if unread.iter().any(|left| left.why == Why::Memory
+                && numbers.large != Some(left.place))
             {
                 return Err(AllocError);
             }
