@@ -5,6 +5,7 @@ pub mod Meeting
 pub mod Settling
 pub mod Spending
 pub mod Walking
+pub mod Turning
 pub mod Chains
 pub mod Outcomes
 pub mod Keyed

@@ -7,12 +7,13 @@ use rpki_relying_party::{Places, Reading, Told};
 use std::alloc::{AllocError, Global};
 
 /// Pairs of a place and a child, and pairs of a place and what it says. Each place costs 1, and from
-/// this one on 100.
+/// this one on 100; for one there may be no memory.
 #[derive(Clone, Copy)]
 pub struct Numbers<'a> {
     pub issued: &'a [(u8, u8)],
     pub said: &'a [(u8, u8)],
     pub dear: u8,
+    pub large: Option<u8>,
 }
 
 // Puts the second numbers of the pairs with this first number at the end of a list.
@@ -74,6 +75,9 @@ impl<'a> Places for Numbers<'a> {
     }
 
     fn read(&self, alloc: Global, place: &u8, room: u64) -> Result<Reading<u8, u8>, AllocError> {
+        if self.large == Some(*place) {
+            return Err(AllocError);
+        }
         let cost = cost_of(*place, self.dear);
         if room < cost {
             return Ok(Reading::Cut);

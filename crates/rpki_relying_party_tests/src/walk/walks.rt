@@ -21,7 +21,7 @@ const SAID: &[(u8, u8)] = &[(0, 10), (1, 11), (2, 12), (3, 13), (3, 23), (4, 14)
 /// Places that issued each other, and one that issued itself.
 const CIRCLE: &[(u8, u8)] = &[(0, 1), (1, 2), (2, 0), (2, 2), (2, 3), (3, 1), (1, 4)];
 
-static ROWS: [Row; 11] = [
+static ROWS: [Row; 12] = [
     (&[], &[], 255, 8, &[], &[]),
     (&[(0, 1)], SAID, 255, 80, &[10, 11], &[]),
     // of each key one is read, whichever told of it
@@ -41,14 +41,14 @@ static ROWS: [Row; 11] = [
     // one of 100 is tried with 1, 2, 4 .. 64, which is 127, before it is read
     (&[(0, 100), (0, 1)], SAID, 100, 228, &[10, 11], &[100]),
     (&[(0, 100), (0, 1)], SAID, 100, 229, &[10, 11], &[]),
-    // and no more often where it is told more often: then one of its key is left or read
+    // and no more often where it is told more often: then each that was told is left, or one is read
     (
         &[(0, 100), (0, 100), (0, 100), (0, 1)],
         SAID,
         100,
         228,
         &[10, 11],
-        &[100],
+        &[100, 100, 100],
     ),
     (
         &[(0, 100), (0, 100), (0, 100), (0, 1)],
@@ -57,6 +57,15 @@ static ROWS: [Row; 11] = [
         229,
         &[10, 11],
         &[],
+    ),
+    // of whichever told it
+    (
+        &[(0, 100), (0, 1), (1, 100)],
+        SAID,
+        100,
+        228,
+        &[10, 11],
+        &[100, 100],
     ),
 ];
 
@@ -148,7 +157,7 @@ static VICTIMS: [(&[(u8, u8)], u64); 6] = [
 ];
 
 // Walks from place 0 on, which there is room to read. That there was no memory to read a place is
-// handed on.
+// handed on, but of the one for which there is none.
 fn walked(
     alloc: Global,
     numbers: &Numbers<'_>,
@@ -159,7 +168,9 @@ fn walked(
         Reading::Cut => Err(AllocError),
         Reading::Told(told) => {
             let unread = walk_from(alloc, numbers, 0, told, limit, found)?;
-            if unread.iter().any(|left| left.why == Why::Memory) {
+            if unread.iter().any(|left| left.why == Why::Memory
+                && numbers.large != Some(left.place))
+            {
                 return Err(AllocError);
             }
             Ok(unread)
@@ -183,7 +194,13 @@ fn is_right(alloc: Global, numbers: &Numbers<'_>, row: &Row) -> Result<bool, All
 fn are_right(alloc: Global, rows: &[Row]) -> Result<bool, AllocError> {
     for row in rows {
         let (issued, said, dear, _, _, _) = *row;
-        if !is_right(alloc, &Numbers { issued, said, dear }, row)? {
+        let numbers = Numbers {
+            issued,
+            said,
+            dear,
+            large: None,
+        };
+        if !is_right(alloc, &numbers, row)? {
             return Ok(false);
         }
     }
@@ -203,6 +220,7 @@ fn victims(alloc: Global, rows: &[(&[(u8, u8)], u64)]) -> Result<usize, AllocErr
             issued,
             said: &[(5, 77)],
             dear: 100,
+            large: None,
         };
         let mut found = Vec::new(alloc);
         drop(walked(alloc, &numbers, *limit, &mut found)?);
@@ -216,5 +234,28 @@ fn victims(alloc: Global, rows: &[(&[(u8, u8)], u64)]) -> Result<usize, AllocErr
 #[test]
 fn victims_are_found(rt: HostRuntime) -> Result<(), AllocError> {
     assert_eq!(rt; victims(rt.alloc(), &VICTIMS)?, VICTIMS.len());
+    Ok(())
+}
+
+// Whether each telling of a place for which there is no memory is left, the first after a try.
+fn are_lacking(alloc: Global) -> Result<bool, AllocError> {
+    let numbers = Numbers {
+        issued: &[(0, 9), (0, 1), (0, 9), (1, 9)],
+        said: SAID,
+        dear: 100,
+        large: Some(9),
+    };
+    let mut found = Vec::new(alloc);
+    let unread = walked(alloc, &numbers, 80, &mut found)?;
+    let are_left = unread
+        .iter()
+        .all(|left| left.place == 9 && left.why == Why::Memory);
+    let tried: u64 = unread.iter().map(|left| left.tried).sum();
+    Ok(are_left && unread.len() == 3 && tried == 1 && found.as_slice() == [10, 11].as_slice())
+}
+
+#[test]
+fn lacking_places_are_told(rt: HostRuntime) -> Result<(), AllocError> {
+    assert!(rt; are_lacking(rt.alloc())?);
     Ok(())
 }

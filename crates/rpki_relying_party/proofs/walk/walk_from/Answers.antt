@@ -9,8 +9,9 @@ use Rattle.rpki_relying_party.specs.Walk.{first_room}
 use Rattle.rpki_relying_party.specs.Steps.{has_key, read_as, spent_for}
 use Rattle.rpki_relying_party.proofs.Keys.{none-has}
 use Rattle.rpki_relying_party.proofs.Spending.{none-spent}
-use Rattle.rpki_relying_party.proofs.Walking.{IsRun, run-begun, run-passed, run-fits, run-visit}
-use Rattle.rpki_relying_party.proofs.Walking.{run-limited, run-ended}
+use Rattle.rpki_relying_party.proofs.Walking.{IsRun, run-begun}
+use Rattle.rpki_relying_party.proofs.Turning.{run-passed, run-fits, run-visit, run-limited}
+use Rattle.rpki_relying_party.proofs.Turning.{run-ended}
 use Rattle.rpki_relying_party.proofs.Chains as laws
 use Rattle.rpki_relying_party.proofs.walk.walk_from.Goals as goal
 
