@@ -2,12 +2,7 @@
 use Rattle.std.proofs.Common.{◌≡◌, ◌⊎◌, inl, inr, ℕ, List, [], ◌∷◌, ◌++◌, Contains, All, sym}
 use Rattle.std.proofs.Common.{subst, ap, refl, ◌∙◌}
 use Rattle.std.specs.List.{AllZip}
-<<<<<<< HEAD
-use Rattle.std.proofs.lemmas.List.Elements.{All-contains}
-use Rattle.std.proofs.lemmas.List.Elements.{Contains-append_left}
-=======
 use Rattle.std.proofs.lemmas.List.Elements.{All-contains, Contains-append_left}
->>>>>>> 8fdda70b4bec567d6512087008bd9d246e4dfa2b
 use Rattle.rpki_relying_party.specs.Paths.{IsChild, Leads, IsFound, IsSaid, TellsOne, Passes}
 use Rattle.rpki_relying_party.specs.Walk.{Read, Left, IsToldChild, IsMet, HasKey, IsWalk}
 use Rattle.rpki_relying_party.specs.Walk.{places_read, places_left}
