@@ -249,9 +249,9 @@ fn are_lacking(alloc: Global) -> Result<bool, AllocError> {
     let unread = walked(alloc, &numbers, 80, &mut found)?;
     let are_left = unread
         .iter()
-        .all(|left| left.place == 9 && left.why == Why::Memory);
-    let tried: u64 = unread.iter().map(|left| left.tried).sum();
-    Ok(are_left && unread.len() == 3 && tried == 1 && found.as_slice() == [10, 11].as_slice())
+        .all(|left| left.place == 9 && left.why == Why::Memory && left.tried <= 1);
+    let tries = unread.iter().filter(|left| left.tried == 1).count();
+    Ok(are_left && unread.len() == 3 && tries == 1 && found.as_slice() == [10, 11].as_slice())
 }
 
 #[test]
