@@ -247,9 +247,9 @@ fn are_lacking(alloc: Global) -> Result<bool, AllocError> {
     };
     let mut found = Vec::new(alloc);
     let unread = walked(alloc, &numbers, 80, &mut found)?;
-    let are_left = unread
-        .iter()
-        .all(|left| left.place == 9 && left.why == Why::Memory && left.tried <= 1);
+    let are_left = unread.iter().all(|left| left.place == 9
+        && left.why == Why::Memory
+        && left.tried <= 1);
     let tries = unread.iter().filter(|left| left.tried == 1).count();
     Ok(are_left && unread.len() == 3 && tries == 1 && found.as_slice() == [10, 11].as_slice())
 }
