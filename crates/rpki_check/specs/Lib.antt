@@ -1,0 +1,9 @@
+pub mod Grounds
+pub mod Kinds
+pub mod Many
+pub mod Numbers
+pub mod Object
+pub mod Report
+pub mod Revoked
+pub mod Room
+pub mod Rows

@@ -1,0 +1,49 @@
+-- What a call says of an object.
+use Rattle.std.specs.Prelude.{◌≡◌, ◌⊎◌, ℕ, List, [], codes, Result, Ok, Err}
+use Rattle.rpki_certs.specs.Issuer.{issuer_text}
+use Rattle.rpki_signed.specs.Text.{check_text}
+use Rattle.rpki_sigobj.specs.Signed.Kind.{ObjectKind}
+use Rattle.rpki_check.specs.Grounds.{manner_in}
+use Rattle.rpki_check.specs.Kinds.{OfKind, kind_code}
+use Rattle.rpki_check.specs.Numbers.{status_of}
+use Rattle.rpki_check.specs.Object.{IsFound}
+use Rattle.rpki_check.specs.Room.{IsWritten}
+use Rattle.rpki_check.specs.declared.kinds.Kind.{Kind}
+use Rattle.rpki_check.specs.declared.question.Question.{Question}
+use Rattle.rpki_check.specs.declared.refusal.Refusal.{Refusal}
+use Rattle.rpki_check.specs.declared.refusal.Refusal.TheVariants.{Check, Issuer, Memory}
+use Rattle.rpki_check.specs.declared.refusal.Refusal.TheVariants.{NoList, NoMoment}
+
+-- the text of a refusal
+abbrev pub refusal_text : Refusal → List ℕ
+refusal_text Memory = codes "out of memory"
+refusal_text NoMoment = codes "no such moment"
+refusal_text NoList = codes "no revocation list"
+refusal_text (Check fault) = check_text fault
+refusal_text (Issuer fault) = issuer_text fault
+
+-- the text of what is found: the lines of a content, or why there is none
+abbrev pub text_of : {X : Type 0} → (X → List ℕ) → Result X Refusal → List ℕ
+text_of lines (Ok x) = lines x
+text_of lines (Err refusal) = refusal_text refusal
+
+-- What a call leaves where this is found: its status and its whole text, or that memory ran out.
+abbrev pub IsReported : {X : Type 0} → (X → List ℕ) → Result X Refusal → List ℕ → List ℕ → ℕ → ℕ
+    → Type 0
+IsReported lines found old new len status =
+    ((status ≡ 1) × IsWritten [] old new len)
+    ⊎ ((status ≡ status_of found) × IsWritten (text_of lines found) old new len)
+
+-- What a call leaves that asks about the object at the front of octets: what is found of it.
+abbrev pub IsSaid : {X : Type 0} → ObjectKind X → (List ℕ → X → Type 0) → (X → List ℕ) → Question
+    → List ℕ → List ℕ → List ℕ → ℕ → ℕ → Type 0
+IsSaid {X} kind form lines q octets old new len status = (found : Result X Refusal)
+    × IsFound kind form q octets found × IsReported lines found old new len status
+
+-- What it leaves for the kind with a number: the same, or that there is no such kind.
+abbrev pub IsObjectCall : Question → ℕ → List ℕ → List ℕ → List ℕ → ℕ → ℕ → Type 0
+IsObjectCall q number octets old new len status =
+    (((k : Kind) → number ≡ kind_code k → ⊥) × (status ≡ 3) × IsWritten [] old new len)
+    ⊎ ((k : Kind) × (number ≡ kind_code k)
+    × OfKind (manner_in q) k (λ X asked form lines.
+    IsSaid asked form lines q octets old new len status))
