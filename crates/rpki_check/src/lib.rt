@@ -17,3 +17,5 @@ mod report;
 mod revoked;
 mod room;
 mod rows;
+#[cfg(test)]
+mod tests;

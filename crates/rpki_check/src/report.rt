@@ -14,10 +14,7 @@ use rpki_routes::{AsProviderAttestation, RouteOriginAttestation};
 use std::alloc::{AllocError, Global};
 
 /// The lines of what is found, or why nothing is.
-fn text_of<T: Lines>(
-    alloc: Global,
-    found: &Result<T, Refusal>,
-) -> Result<String, AllocError>
+fn text_of<T: Lines>(alloc: Global, found: &Result<T, Refusal>) -> Result<String, AllocError>
     ensures { IfOk result (λ text. string_bytes text ≡ text_of T.lines found.now) }
 {
     let mut text = String::new(alloc);
