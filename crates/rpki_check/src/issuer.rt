@@ -1,9 +1,10 @@
 //! The issuer that certificates make, none of which a list revokes.
 
-ghost use Rattle.std.specs.Prelude.{[]};
+ghost use Rattle.std.specs.Prelude.{◌↔◌, [], IsTrue};
 ghost use Rattle.rpki_certs.specs.Issuer.{IsIssued, MakesIssuer};
 ghost use Rattle.rpki_rsa.specs.Signature.{is_rsa_signature};
 ghost use Rattle.rpki_check.specs.Grounds.{IsIssuerOf, IsNext, Leads};
+ghost use Rattle.rpki_check.specs.Revoked.{IsUnrevoked};
 
 use crate::question::Octets;
 use crate::revoked::is_unrevoked;
@@ -82,7 +83,7 @@ fn next_under(
     match issued_under(alloc, issuer, octets, now) {
         Err(fault) => Err(fault),
         Ok(next) => {
-            if is_unrevoked(lists, issuer.cert(), next.cert()) {
+            if is_unrevoked_under(lists, issuer, &next) {
                 Ok(next)
             } else {
                 drop(next);
@@ -92,6 +93,14 @@ fn next_under(
             }
         }
     }
+}
+
+/// Whether no list revokes a certificate of this issuer.
+fn is_unrevoked_under(lists: &[Crl], issuer: &ResourceCert, next: &ResourceCert) -> bool
+    ensures { IsTrue result
+        ↔ IsUnrevoked lists.now issuer.now.cert.certificate next.now.cert.certificate }
+{
+    is_unrevoked(lists, issuer.cert(), next.cert())
 }
 
 /// The certificate of a CA under this issuer.
