@@ -5,7 +5,7 @@ use Rattle.rpki_der.specs.declared.mode.Mode.{Mode}
 use Rattle.rpki_sigobj.specs.Object.{mode_of}
 use Rattle.rpki_sigobj.specs.Signed.Kind.{ObjectKind}
 use Rattle.rpki_check.specs.Grounds.{AreGroundsOf, HasNoGrounds, manner_in}
-use Rattle.rpki_check.specs.Kinds.{OfKind, kind_code}
+use Rattle.rpki_check.specs.Kinds.{AsksFor, OfKind}
 use Rattle.rpki_check.specs.Numbers.{refusal_number, status_of}
 use Rattle.rpki_check.specs.Object.{IsFoundOn}
 use Rattle.rpki_check.specs.Room.{IsWritten}
@@ -22,11 +22,13 @@ abbrev pub IsStatusAs : {X : Type 0} → ObjectKind X → (List ℕ → X → Ty
 IsStatusAs {X} kind form mode g octets status = (found : Result X Refusal)
     × IsFoundOn kind form mode g octets found × (status ≡ status_of found)
 
--- the status of an object: that of its kind, or 3 where there is no such kind
+-- the status of an object: that of its kind, or 3 where its number asks for none, unless memory ran
+-- out
 abbrev pub IsStatusOn : Manner → Grounds → Object → ℕ → Type 0
 IsStatusOn m g o status =
-    (((k : Kind) → o.kind ≡ kind_code k → ⊥) × (status ≡ 3))
-    ⊎ ((k : Kind) × (o.kind ≡ kind_code k)
+    ((status ≡ 1)
+    ⊎ ((status ≡ 3) × ((k : Kind) → AsksFor (mode_of m.strict) o.kind o.octets.now k → ⊥)))
+    ⊎ ((k : Kind) × AsksFor (mode_of m.strict) o.kind o.octets.now k
     × OfKind m k (λ X asked form lines.
     IsStatusAs asked form (mode_of m.strict) g o.octets.now status))
 

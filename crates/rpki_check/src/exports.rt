@@ -8,12 +8,12 @@ ghost use Rattle.rpki_routes.specs.Roa.Form.{RoaForm};
 ghost use Rattle.rpki_check.specs.Grounds.{manner_in};
 ghost use Rattle.rpki_check.specs.Many.{IsManyCall};
 ghost use Rattle.rpki_check.specs.Numbers.{IsVerdict};
-ghost use Rattle.rpki_check.specs.Report.{IsObjectCall};
+ghost use Rattle.rpki_check.specs.Report.{IsObjectCall, IsShowCall};
 ghost use Rattle.rpki_check.specs.Rows.{IsRowsCall, numbers, payloads};
 
 use crate::many::{Object, judge};
-use crate::question::Question;
-use crate::report::report_kind;
+use crate::question::{Question, manner_of};
+use crate::report::{report_kind, show_kind};
 use crate::rows::{Payload, aspa_rows, roa_rows};
 use bytes::Bytes;
 use rpki_basics::{Crypto, PublicKey, RpkiSignature, RpkiSignatureAlgorithm};
@@ -68,6 +68,22 @@ pub extern "C" fn rpki_check_object(
     ensures { IsObjectCall question.now kind object.now room.old room.new len.new result }
 {
     report_kind(alloc, question, kind, object, room, len)
+}
+
+/// What the object of a kind at the front of octets says, without a check. Of the question, the
+/// options alone are looked at.
+#[unsafe(no_mangle)]
+pub extern "C" fn rpki_check_show(
+    alloc: Global,
+    question: &Question<'_>,
+    kind: u32,
+    object: &[u8],
+    room: &mut [u8],
+    len: &mut usize,
+) -> u32
+    ensures { IsShowCall (manner_in question.now) kind object.now room.old room.new len.new result }
+{
+    show_kind(alloc, manner_of(question), kind, object, room, len)
 }
 
 /// Whether objects are good, all on the grounds of one question: the status of each.

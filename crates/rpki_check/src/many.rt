@@ -6,7 +6,7 @@ ghost use Rattle.rpki_sigobj.specs.Object.{mode_of};
 ghost use Rattle.rpki_check.specs.Many.{IsManyCall, IsStatusOn, IsStatusAs};
 
 use crate::grounds::{Grounds, grounds_of};
-use crate::kinds::{Kind, Lines, kind_of};
+use crate::kinds::{Kind, Lines, kind_asked};
 use crate::object::found_on;
 use crate::question::{Manner, Question, manner_of};
 use crate::refusal::status_of;
@@ -40,12 +40,12 @@ fn status_on(alloc: Global, object: &Object<'_>, manner: Manner, grounds: &Groun
     ensures { IsStatusOn manner grounds.now object.now result }
 {
     let octets = object.octets;
-    match kind_of(object.kind) {
-        None => 3,
-        Some(Kind::Roa) => status_as::<RouteOriginAttestation>(alloc, octets, manner, grounds),
-        Some(Kind::Aspa) => status_as::<AsProviderAttestation>(alloc, octets, manner, grounds),
-        Some(Kind::Manifest) => status_as::<ManifestContent>(alloc, octets, manner, grounds),
-        Some(Kind::Checklist) => {
+    match kind_asked(alloc, object.kind, octets, manner.strict) {
+        Err(status) => status,
+        Ok(Kind::Roa) => status_as::<RouteOriginAttestation>(alloc, octets, manner, grounds),
+        Ok(Kind::Aspa) => status_as::<AsProviderAttestation>(alloc, octets, manner, grounds),
+        Ok(Kind::Manifest) => status_as::<ManifestContent>(alloc, octets, manner, grounds),
+        Ok(Kind::Checklist) => {
             status_as::<ResourceSignedChecklist>(alloc, octets, manner, grounds)
         }
     }

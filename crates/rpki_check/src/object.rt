@@ -7,6 +7,7 @@ ghost use Rattle.rpki_rsa.specs.Signature.{is_rsa_signature};
 ghost use Rattle.rpki_sigobj.specs.Object.{mode_of};
 ghost use Rattle.rpki_check.specs.Grounds.{manner_in};
 ghost use Rattle.rpki_check.specs.Object.{ChecksOn, IsFound, IsFoundOn, SaysAs};
+ghost use Rattle.rpki_check.specs.Report.{IsRead};
 ghost use Rattle.rpki_check.specs.declared.grounds.Grounds.{Grounds as GroundsOf};
 
 use crate::grounds::{Grounds, grounds_of};
@@ -16,11 +17,11 @@ use crate::refusal::Refusal;
 use crate::revoked::ask;
 use bytes::Bytes;
 use rpki_certs::{Cert, ResourceCert};
-use rpki_der::DecodeError;
 use rpki_faults::ValidationError;
 use rpki_rsa::Rsa;
 use rpki_signed::check;
 use rpki_signed::check::CheckError;
+use rpki_sigobj::Signed;
 use std::alloc::Global;
 
 /// Whether octets begin with a good object on these grounds, with what `ask` says of its
@@ -106,5 +107,19 @@ pub fn found_in<T: Lines>(
             drop(grounds);
             found
         }
+    }
+}
+
+/// What is read of octets, without a check.
+pub fn read_object<T: Lines>(alloc: Global, octets: &[u8], manner: Manner) -> Result<T, Refusal>
+    ensures { IsRead T.kind (T.form (T.rule_in manner)) (mode_of manner.strict) octets.now result }
+{
+    let rule = T::rule(manner);
+    match Bytes::copy_from_slice(alloc, octets) {
+        Err(_) => Err(Refusal::Memory),
+        Ok(source) => match Signed::<T>::decode(alloc, source, manner.strict, rule) {
+            Err(fault) => Err(Refusal::Check(CheckError::Decode(fault))),
+            Ok(object) => Ok(object.into_content()),
+        },
     }
 }

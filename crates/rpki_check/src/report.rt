@@ -2,11 +2,13 @@
 
 ghost use Rattle.std.specs.Prelude.{◌≡◌, IfOk, string_bytes};
 ghost use Rattle.rpki_check.specs.Grounds.{manner_in};
-ghost use Rattle.rpki_check.specs.Report.{IsObjectCall, IsReported, IsSaid, text_of};
+ghost use Rattle.rpki_sigobj.specs.Object.{mode_of};
+ghost use Rattle.rpki_check.specs.Report.{IsObjectCall, IsReported, IsSaid, IsShowCall, IsShown};
+ghost use Rattle.rpki_check.specs.Report.{text_of};
 
-use crate::kinds::{Kind, Lines, kind_of};
-use crate::object::found_in;
-use crate::question::Question;
+use crate::kinds::{Kind, Lines, kind_asked};
+use crate::object::{found_in, read_object};
+use crate::question::{Manner, Question};
 use crate::refusal::{Refusal, status_of};
 use crate::room::put;
 use rpki_files::{ManifestContent, ResourceSignedChecklist};
@@ -25,7 +27,28 @@ fn text_of<T: Lines>(alloc: Global, found: &Result<T, Refusal>) -> Result<String
     Ok(text)
 }
 
-/// Puts what is said of this kind of object at the front of octets into a room, and gives the
+/// Puts the text of what is found into a room, and gives the status.
+fn put_found<T: Lines>(
+    alloc: Global,
+    found: &Result<T, Refusal>,
+    room: &mut [u8],
+    len: &mut usize,
+) -> u32
+    ensures { IsReported T.lines found.now room.old room.new len.new result }
+{
+    match text_of(alloc, found) {
+        Err(_) => {
+            put(b"", room, len);
+            1
+        }
+        Ok(text) => {
+            put(text.as_bytes(), room, len);
+            status_of(found)
+        }
+    }
+}
+
+/// Puts what is said of the object of this kind at the front of octets into a room, and gives the
 /// status.
 fn report<T: Lines>(
     alloc: Global,
@@ -38,22 +61,12 @@ fn report<T: Lines>(
         octets.now room.old room.new len.new result }
 {
     let found = found_in::<T>(alloc, question, octets);
-    match text_of(alloc, &found) {
-        Err(_) => {
-            drop(found);
-            put(b"", room, len);
-            1
-        }
-        Ok(text) => {
-            put(text.as_bytes(), room, len);
-            let status = status_of(&found);
-            drop(found);
-            status
-        }
-    }
+    let status = put_found(alloc, &found, room, len);
+    drop(found);
+    status
 }
 
-/// The same for the kind with this number.
+/// The same for the kind that a number asks for.
 pub fn report_kind(
     alloc: Global,
     question: &Question<'_>,
@@ -64,16 +77,56 @@ pub fn report_kind(
 ) -> u32
     ensures { IsObjectCall question.now number octets.now room.old room.new len.new result }
 {
-    match kind_of(number) {
-        None => {
+    match kind_asked(alloc, number, octets, question.relaxed == 0) {
+        Err(status) => {
             put(b"", room, len);
-            3
+            status
         }
-        Some(Kind::Roa) => report::<RouteOriginAttestation>(alloc, question, octets, room, len),
-        Some(Kind::Aspa) => report::<AsProviderAttestation>(alloc, question, octets, room, len),
-        Some(Kind::Manifest) => report::<ManifestContent>(alloc, question, octets, room, len),
-        Some(Kind::Checklist) => {
+        Ok(Kind::Roa) => report::<RouteOriginAttestation>(alloc, question, octets, room, len),
+        Ok(Kind::Aspa) => report::<AsProviderAttestation>(alloc, question, octets, room, len),
+        Ok(Kind::Manifest) => report::<ManifestContent>(alloc, question, octets, room, len),
+        Ok(Kind::Checklist) => {
             report::<ResourceSignedChecklist>(alloc, question, octets, room, len)
         }
+    }
+}
+
+/// Puts what the object of this kind at the front of octets says, without a check.
+fn show<T: Lines>(
+    alloc: Global,
+    manner: Manner,
+    octets: &[u8],
+    room: &mut [u8],
+    len: &mut usize,
+) -> u32
+    ensures { IsShown T.kind (T.form (T.rule_in manner)) T.lines (mode_of manner.strict) octets.now
+        room.old room.new len.new result }
+{
+    let read = read_object::<T>(alloc, octets, manner);
+    let status = put_found(alloc, &read, room, len);
+    drop(read);
+    status
+}
+
+/// The same for the kind that a number asks for.
+pub fn show_kind(
+    alloc: Global,
+    manner: Manner,
+    number: u32,
+    octets: &[u8],
+    room: &mut [u8],
+    len: &mut usize,
+) -> u32
+    ensures { IsShowCall manner number octets.now room.old room.new len.new result }
+{
+    match kind_asked(alloc, number, octets, manner.strict) {
+        Err(status) => {
+            put(b"", room, len);
+            status
+        }
+        Ok(Kind::Roa) => show::<RouteOriginAttestation>(alloc, manner, octets, room, len),
+        Ok(Kind::Aspa) => show::<AsProviderAttestation>(alloc, manner, octets, room, len),
+        Ok(Kind::Manifest) => show::<ManifestContent>(alloc, manner, octets, room, len),
+        Ok(Kind::Checklist) => show::<ResourceSignedChecklist>(alloc, manner, octets, room, len),
     }
 }

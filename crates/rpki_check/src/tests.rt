@@ -3,7 +3,8 @@
 mod octets;
 
 use crate::exports::{
-    rpki_check_aspa, rpki_check_object, rpki_check_objects, rpki_check_roa, rpki_check_version,
+    rpki_check_aspa, rpki_check_object, rpki_check_objects, rpki_check_roa, rpki_check_show,
+    rpki_check_version,
 };
 use crate::many::Object;
 use crate::question::{Date, Octets, Question};
@@ -56,6 +57,19 @@ fn objects_of_each_kind_are_good(rt: HostRuntime) {
     assert_eq!(rt; status_of(alloc, &question, 2, PROVIDERS).0, 0);
     assert_eq!(rt; status_of(alloc, &question, 3, MANIFEST).0, 0);
     assert_eq!(rt; status_of(alloc, &question, 4, LETTER).0, 0);
+}
+
+#[test]
+fn objects_are_shown(rt: HostRuntime) {
+    let question = asked(10000, &[]);
+    let mut room = [0; 100];
+    let mut len = 0;
+    let status = rpki_check_show(rt.alloc(), &question, 0, ORIGIN, &mut room, &mut len);
+    assert_eq!(rt; (status, len), (0, 62));
+    let text = b"roa\nas AS64496\norigin 192.0.2.0/24-26\norigin 2001:db8::/32-48\n";
+    assert_eq!(rt; &room[..62], text.as_slice());
+    let status = rpki_check_show(rt.alloc(), &question, 0, ANCHOR, &mut room, &mut len);
+    assert_eq!(rt; (status, len), (3, 0));
 }
 
 #[test]
@@ -118,7 +132,7 @@ fn many_objects_are_judged(rt: HostRuntime) {
             octets: ORIGIN,
         },
         Object {
-            kind: 3,
+            kind: 0,
             octets: MANIFEST,
         },
         Object {
