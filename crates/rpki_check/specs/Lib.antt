@@ -1,3 +1,4 @@
+pub mod Files
 pub mod Grounds
 pub mod Kinds
 pub mod Many

@@ -1,16 +1,23 @@
 //! The calls.
 
 ghost use Rattle.std.specs.Prelude.{◌≡◌};
+ghost use Rattle.rpki_der.specs.declared.mode.Mode.TheVariants.{Der};
+ghost use Rattle.rpki_files.specs.Checklist.{ChecklistForm};
+ghost use Rattle.rpki_files.specs.Checklist.Checks.{checklist_kind};
+ghost use Rattle.rpki_files.specs.Manifest.{ManifestForm};
+ghost use Rattle.rpki_files.specs.Manifest.Checks.{manifest_kind};
 ghost use Rattle.rpki_routes.specs.Aspa.Checks.{aspa_kind};
 ghost use Rattle.rpki_routes.specs.Aspa.Form.{AspaForm};
 ghost use Rattle.rpki_routes.specs.Roa.Checks.{roa_kind};
 ghost use Rattle.rpki_routes.specs.Roa.Form.{RoaForm};
+ghost use Rattle.rpki_check.specs.Files.{IsFilesCall, checked_files, listed_files};
 ghost use Rattle.rpki_check.specs.Grounds.{manner_in};
 ghost use Rattle.rpki_check.specs.Many.{IsManyCall};
 ghost use Rattle.rpki_check.specs.Numbers.{IsVerdict};
 ghost use Rattle.rpki_check.specs.Report.{IsObjectCall, IsShowCall};
 ghost use Rattle.rpki_check.specs.Rows.{IsRowsCall, numbers, payloads};
 
+use crate::files::{Entry, checklist_files, manifest_files};
 use crate::many::{Object, judge};
 use crate::question::{Question, manner_of};
 use crate::report::{report_kind, show_kind};
@@ -113,6 +120,41 @@ pub extern "C" fn rpki_check_roa(
         count.new result }
 {
     roa_rows(alloc, question, object, room, count)
+}
+
+/// Whether octets begin with a good manifest: the files that it lists.
+#[unsafe(no_mangle)]
+pub extern "C" fn rpki_check_manifest(
+    alloc: Global,
+    question: &Question<'_>,
+    object: &[u8],
+    room: &mut [Entry],
+    count: &mut usize,
+    octets: &mut [u8],
+    len: &mut usize,
+) -> u32
+    ensures { IsFilesCall manifest_kind (ManifestForm (manner_in question.now).names Der)
+        listed_files question.now object.now room.old room.new count.new octets.old octets.new
+        len.new result }
+{
+    manifest_files(alloc, question, object, room, count, octets, len)
+}
+
+/// Whether octets begin with a good checklist: the files that it lists.
+#[unsafe(no_mangle)]
+pub extern "C" fn rpki_check_checklist(
+    alloc: Global,
+    question: &Question<'_>,
+    object: &[u8],
+    room: &mut [Entry],
+    count: &mut usize,
+    octets: &mut [u8],
+    len: &mut usize,
+) -> u32
+    ensures { IsFilesCall checklist_kind (ChecklistForm Der) checked_files question.now object.now
+        room.old room.new count.new octets.old octets.new len.new result }
+{
+    checklist_files(alloc, question, object, room, count, octets, len)
 }
 
 /// Whether octets begin with a good ASPA: its customer, and the customer's providers.

@@ -5,6 +5,7 @@
 #![tactic(auto)]
 
 mod exports;
+mod files;
 mod grounds;
 mod issuer;
 mod kinds;

@@ -3,9 +3,10 @@
 mod octets;
 
 use crate::exports::{
-    rpki_check_aspa, rpki_check_object, rpki_check_objects, rpki_check_roa, rpki_check_show,
-    rpki_check_version,
+    rpki_check_aspa, rpki_check_checklist, rpki_check_manifest, rpki_check_object,
+    rpki_check_objects, rpki_check_roa, rpki_check_show, rpki_check_version,
 };
+use crate::files::Entry;
 use crate::many::Object;
 use crate::question::{Date, Octets, Question};
 use crate::rows::Payload;
@@ -121,6 +122,48 @@ fn rows_are_those_of_the_content(rt: HostRuntime) {
     let status = rpki_check_aspa(rt.alloc(), &question, PROVIDERS, &mut numbers, &mut count);
     assert_eq!(rt; status, 0);
     assert_eq!(rt; numbers[0], 64496);
+}
+
+#[test]
+fn files_are_those_of_the_content(rt: HostRuntime) {
+    let question = asked(2027, &[]);
+    let mut rows = [Entry {
+        name: 7,
+        name_length: 7,
+        hash: 7,
+        hash_length: 7,
+        named: 7,
+    }; 8];
+    let mut octets = [0; 1024];
+    let mut count = 0;
+    let mut len = 0;
+    let alloc = rt.alloc();
+    let status = rpki_check_manifest(
+        alloc,
+        &question,
+        MANIFEST,
+        &mut rows,
+        &mut count,
+        &mut octets,
+        &mut len,
+    );
+    assert_eq!(rt; (status, count), (0, 6));
+    assert_eq!(rt; &octets[..13], b"authority.crl".as_slice());
+    assert_eq!(rt;
+        (rows[0].name_length, rows[0].hash, rows[0].hash_length),
+        (13, 13, 32)
+    );
+    let status = rpki_check_checklist(
+        alloc,
+        &question,
+        LETTER,
+        &mut rows,
+        &mut count,
+        &mut octets,
+        &mut len,
+    );
+    assert_eq!(rt; (status, count, rows[0].named), (0, 2, 1));
+    assert_eq!(rt; rows[0].hash_length, 32);
 }
 
 #[test]
