@@ -1,6 +1,6 @@
 -- Chains of certificates and rows, one by one; and what tests deny.
 use Rattle.std.proofs.Common.{◌≡◌, ◌∙◌, ℕ, zero, suc, ◌+◌, ◌<◌, List, [], ◌∷◌, ◌++◌, length, drop}
-use Rattle.std.proofs.Common.{Bool, true, false, IsTrue, ◌↔◌, get_or, take, Result, Ok, arith, refl, sym, subst}
+use Rattle.std.proofs.Common.{Bool, true, false, IsTrue, ◌↔◌, append_assoc, map, get_or, take, Result, Ok, arith, refl, sym, subst}
 use Rattle.std.specs.List.{AllZip}
 use Rattle.rpki_basics.specs.Moment.{Moment}
 use Rattle.rpki_certs.specs.Issuer.{Then}
@@ -63,6 +63,17 @@ pub zip-more : {A B : Type 0} (R : A → B → Type 0) (xs : List A) (ys : List 
 zip-more R xs ys i d y l h r =
     let same : i + 1 ≡ suc i = omega arith in
     subst (λ (n : ℕ). AllZip R (take n xs) (ys ++ y ∷ [])) (sym same) (zip-step R xs ys i d y l h r)
+
+-- a row more, and an item less
+pub pushed : {X Y : Type 0} (f : X → Y) (items more : List Y) (p : Y) (a : X) (old new : List X)
+    (all : List Y) → more ≡ items ++ p ∷ [] → p ≡ f a → old ≡ a ∷ new
+    → items ++ map f old ≡ all → more ++ map f new ≡ all
+pushed {X} {Y} f items more p a old new all e g h i =
+    let k : items ++ map f (a ∷ new) ≡ all =
+    subst (λ (o : List X). items ++ map f o ≡ all) h i in
+    subst (λ (q : List Y). q ++ map f new ≡ all) (sym e)
+    (subst (λ (y : Y). (items ++ y ∷ []) ++ map f new ≡ all) (sym g)
+    (append_assoc items (f a ∷ []) (map f new) ∙ k))
 
 -- ---- tests
 
