@@ -20,26 +20,24 @@
 
 #include <stddef.h>
 #include <stdint.h>
-#include <time.h>
 
 #ifdef __cplusplus
 extern "C" {
 #endif
 
-/* The version of this header. The library has the same calls if the upper 16
- * bits are the same and the lower 16 are no smaller. */
+/* The library has these calls if its upper 16 bits are the same and its lower 16 are
+ * no smaller. */
 #define RPKI_CHECK_VERSION 0x00010000
 uint32_t rpki_check_version(void);
 
-/*
- * What a call answers: 0, or the number of a refusal. Numbers stay as they are.
- * The text of a refusal is what rpki_check_object writes.
- */
+/* What a call answers: 0, or the number of a refusal, which stays as it is. Beside
+ * each is its text. */
 enum rpki_status {
 	RPKI_GOOD = 0,          /* the octets begin with a good object */
 	RPKI_NO_MEMORY = 1,     /* memory ran out: nothing is said of the octets */
 	RPKI_NO_MOMENT = 2,     /* "no such moment": the date is none */
-	RPKI_NO_KIND = 3,       /* there is no kind with this number */
+	RPKI_NO_KIND = 3,       /* there is no kind with this number, or for RPKI_NAMED the
+	                         * octets begin with no object of a kind below */
 	RPKI_NO_LIST = 4,       /* "no revocation list": one of the lists is none */
 	RPKI_MALFORMED = 100,   /* "malformed", or a rule of the format that is broken:
 	                         * the octets begin with no object of the kind */
@@ -90,8 +88,7 @@ enum rpki_status {
 	RPKI_UNCOVERED_PREFIX = 320,     /* ROA prefix 192.0.2.0/24 not covered by certificate */
 	RPKI_CHECKLIST_NOT_HELD = 321,   /* checklist resources not held */
 	RPKI_ISSUER_REVOKED = 332,       /* CA certificate has been revoked; with RPKI_OF_ISSUER */
-	RPKI_REVOKED = 337,              /* refused by the caller: one of the lists revokes
-	                                  * the certificate of the object */
+	RPKI_REVOKED = 337,              /* refused by the caller: a list revokes its certificate */
 
 	/* The certificates of the question make no issuer: 1000 more than the numbers
 	 * above, as 1100 where one is malformed or 1306 where one has expired. */
@@ -99,6 +96,7 @@ enum rpki_status {
 };
 
 enum rpki_kind {
+	RPKI_NAMED = 0,       /* the one that the content type of the object names */
 	RPKI_ROA = 1,         /* RFC 9582 */
 	RPKI_ASPA = 2,        /* draft-ietf-sidrops-aspa-profile-15 */
 	RPKI_MANIFEST = 3,    /* RFC 9286 */
@@ -117,8 +115,7 @@ typedef struct rpki_moment {
 	uint8_t month, day, hour, minute, second;
 } rpki_moment;
 
-/* Under which certificates and lists, when and how is checked. Make it once, and
- * ask it of many objects. Begin with zeros: rpki_question q = {0}; */
+/* Under which certificates and lists, when and how is checked. Begin with zeros. */
 typedef struct rpki_question {
 	rpki_octets anchor;         /* the certificate of a trust anchor, in DER */
 	const rpki_octets *chain;   /* those of CAs, each under the one before: */
@@ -149,6 +146,14 @@ uint32_t rpki_check_object(const rpki_question *question, uint32_t kind,
     const uint8_t *object, size_t object_length,
     char *text, size_t room, size_t *length);
 
+/*
+ * What an object of a kind says, without a check: RPKI_GOOD says only that the octets
+ * begin with one. Of the question, the options alone are looked at.
+ */
+uint32_t rpki_check_show(const rpki_question *question, uint32_t kind,
+    const uint8_t *object, size_t object_length,
+    char *text, size_t room, size_t *length);
+
 /* Octets that are to begin with an object of a kind. */
 typedef struct rpki_object {
 	uint32_t kind;
@@ -175,22 +180,38 @@ typedef struct rpki_payload {
 	uint8_t zero;
 } rpki_payload;
 
-/*
- * Checks a ROA, as rpki_check_object does with RPKI_ROA. *count is the number of
- * its prefixes, 0 if it is not good; they are written if all fit into the room,
- * IPv4 first, in the order of the ROA, and else none is.
- */
+/* Checks a ROA, as rpki_check_object does with RPKI_ROA. *count is the number of its
+ * prefixes, 0 if it is not good; they are written if all fit into the room, IPv4
+ * first, in the order of the ROA, and else none is. */
 uint32_t rpki_check_roa(const rpki_question *question,
     const uint8_t *object, size_t object_length,
     rpki_payload *payloads, size_t room, size_t *count);
 
-/*
- * Checks an ASPA, as rpki_check_object does with RPKI_ASPA. The numbers are the
- * customer and then its providers, in ascending order; written as above.
- */
+/* Checks an ASPA in the same way. The numbers are the customer and then its
+ * providers, in ascending order. */
 uint32_t rpki_check_aspa(const rpki_question *question,
     const uint8_t *object, size_t object_length,
     uint32_t *numbers, size_t room, size_t *count);
+
+/* A file of a manifest or a checklist: where its name and its hash stand among the
+ * octets that are written with it. */
+typedef struct rpki_file {
+	size_t name, name_length;
+	size_t hash, hash_length;
+	size_t named;         /* 1; 0 if a checklist gives no name */
+} rpki_file;
+
+/* Check a manifest and a checklist in the same way, with two rooms: for *count files,
+ * in their order, and for the *length octets in which names and hashes stand. Each is
+ * written if all of it fits, and else not. */
+uint32_t rpki_check_manifest(const rpki_question *question,
+    const uint8_t *object, size_t object_length,
+    rpki_file *files, size_t room, size_t *count,
+    uint8_t *octets, size_t octets_room, size_t *length);
+uint32_t rpki_check_checklist(const rpki_question *question,
+    const uint8_t *object, size_t object_length,
+    rpki_file *files, size_t room, size_t *count,
+    uint8_t *octets, size_t octets_room, size_t *length);
 
 /*
  * Whether a signature of a message is one by RSASSA-PKCS1-v1_5 with SHA-256 by
@@ -201,20 +222,26 @@ uint32_t rpki_check_signature(const uint8_t *key, size_t key_length,
     const uint8_t *message, size_t message_length,
     const uint8_t *signature, size_t signature_length);
 
-/* The moment of a time of the system; year 10000 (no moment) if it has none. */
-static inline rpki_moment rpki_moment_of(time_t seconds)
+/* The moment of a time in seconds since 1970; year 10000 (no moment) if it has none. */
+static inline rpki_moment rpki_moment_of(int64_t seconds)
 {
 	rpki_moment m = { 10000, 0, 0, 0, 0, 0 };
-	struct tm t;
+	uint32_t days, day, year, rest, month, second;
 
-	if (gmtime_r(&seconds, &t) != NULL && t.tm_year >= -1900 && t.tm_year <= 8099) {
-		m.year = (uint16_t)(t.tm_year + 1900);
-		m.month = (uint8_t)(t.tm_mon + 1);
-		m.day = (uint8_t)t.tm_mday;
-		m.hour = (uint8_t)t.tm_hour;
-		m.minute = (uint8_t)t.tm_min;
-		m.second = (uint8_t)t.tm_sec;
-	}
+	if (seconds < 0 || seconds >= INT64_C(253402300800))
+		return m;
+	days = (uint32_t)(seconds / 86400) + 719468;    /* since 1 March of the year 0 */
+	second = (uint32_t)(seconds % 86400);
+	day = days % 146097;                            /* in its 400 years */
+	year = (day - day / 1460 + day / 36524 - day / 146096) / 365;
+	rest = day - (365 * year + year / 4 - year / 100);
+	month = (5 * rest + 2) / 153;                   /* from March on */
+	m.year = (uint16_t)(days / 146097 * 400 + year + (month >= 10));
+	m.month = (uint8_t)(month < 10 ? month + 3 : month - 9);
+	m.day = (uint8_t)(rest - (153 * month + 2) / 5 + 1);
+	m.hour = (uint8_t)(second / 3600);
+	m.minute = (uint8_t)(second / 60 % 60);
+	m.second = (uint8_t)(second % 60);
 	return m;
 }
 

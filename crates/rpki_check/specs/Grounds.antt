@@ -83,10 +83,10 @@ AreLists octets lists = AllZip (λ o l. IsList o.octets.now l.list) octets lists
 -- These are the grounds of a question: there is its moment, its lists are these, and its
 -- certificates make this issuer, none of which a list revokes.
 pub record AreGroundsOf (q : Question) (g : Grounds) : Type 0 where
-  pub is_moment : IsMoment g.now
-  pub now : g.now ≡ moment_in q.moment
+  pub is_moment : IsMoment g.moment
+  pub moment : g.moment ≡ moment_in q.moment
   pub lists : AreLists q.lists.now g.lists.items
-  pub issuer : IsIssuerOf g.lists.items g.now q.anchor.now q.chain.now (Ok g.issuer)
+  pub issuer : IsIssuerOf g.lists.items g.moment q.anchor.now q.chain.now (Ok g.issuer)
 
 -- The lists and the moment of a question are these, and its certificates make no issuer for this
 -- fault.

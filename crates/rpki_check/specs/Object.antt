@@ -45,7 +45,7 @@ SaysAs Says g =
 abbrev pub ChecksOn : {X : Type 0} → ObjectKind X → (List ℕ → X → Type 0) → Mode → Grounds → List ℕ
     → Result (Validated × X) CheckError → Type 0
 ChecksOn kind form mode g octets result =
-    IsExact kind form mode sha256 is_rsa_signature g.issuer g.now (SaysOf g) octets result
+    IsExact kind form mode sha256 is_rsa_signature g.issuer g.moment (SaysOf g) octets result
 
 -- what is found on these grounds: the content of a good object, or why there is none, unless memory
 -- ran out
@@ -81,7 +81,7 @@ pub record IsGoodFor {X : Type 0} (kind : ObjectKind X) (form : List ℕ → X �
   pub grounds : Grounds
   pub are : AreGroundsOf q grounds
   pub good : BeginsWithGood kind form (mode_of (manner_in q).strict) sha256 is_rsa_signature
-      grounds.issuer grounds.now (SaysOf grounds) octets
+      grounds.issuer grounds.moment (SaysOf grounds) octets
 
 -- The question has grounds, and on them the octets begin with no good object.
 pub record IsNotGoodOn {X : Type 0} (kind : ObjectKind X) (form : List ℕ → X → Type 0)
@@ -89,7 +89,7 @@ pub record IsNotGoodOn {X : Type 0} (kind : ObjectKind X) (form : List ℕ → X
   pub grounds : Grounds
   pub are : AreGroundsOf q grounds
   pub none : ¬ BeginsWithGood kind form (mode_of (manner_in q).strict) sha256 is_rsa_signature
-      grounds.issuer grounds.now (SaysOf grounds) octets
+      grounds.issuer grounds.moment (SaysOf grounds) octets
 
 -- The question has no grounds, and not for want of memory, or the octets begin with no good object.
 abbrev pub IsNotGoodFor : {X : Type 0} → ObjectKind X → (List ℕ → X → Type 0) → Question → List ℕ

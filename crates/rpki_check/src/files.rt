@@ -1,12 +1,13 @@
 //! The files that manifests and checklists list, in rows: where the name and the hash of each stand
 //! among octets.
 
-ghost use Rattle.std.specs.Prelude.{◌≡◌, IfOk, OnOk, [], option_map};
+ghost use Rattle.std.specs.Prelude.{◌≡◌, IfOk, OnOk, []};
 ghost use Rattle.rpki_der.specs.declared.mode.Mode.TheVariants.{Der};
 ghost use Rattle.rpki_files.specs.Checklist.{ChecklistForm};
 ghost use Rattle.rpki_files.specs.Checklist.Checks.{checklist_kind};
 ghost use Rattle.rpki_files.specs.Manifest.{ManifestForm};
 ghost use Rattle.rpki_files.specs.Manifest.Checks.{manifest_kind};
+ghost use Rattle.rpki_lists.specs.Slice.{seen};
 ghost use Rattle.rpki_check.specs.Files.{AreFilesPut, AreWritten, IsFilesCall, IsPushed, IsTable};
 ghost use Rattle.rpki_check.specs.Files.{checked_files, is_named, listed_files, name_octets};
 ghost use Rattle.rpki_check.specs.Grounds.{manner_in};
@@ -43,7 +44,7 @@ pub struct Table {
 
 /// The octets of a name, if there is one.
 fn name_octets<'a>(name: Option<&'a [u8]>) -> &'a [u8]
-    ensures { result.now ≡ name_octets (option_map (λ n. n.now) name.entry) }
+    ensures { result.now ≡ name_octets (seen (λ n. n.now) name.entry) }
 {
     match name {
         None => &[],
@@ -53,7 +54,7 @@ fn name_octets<'a>(name: Option<&'a [u8]>) -> &'a [u8]
 
 /// 1 where there is a name, and else 0.
 fn is_named(name: Option<&[u8]>) -> usize
-    ensures { result ≡ is_named (option_map (λ n. n.now) name.entry) }
+    ensures { result ≡ is_named (seen (λ n. n.now) name.entry) }
 {
     match name {
         None => 0,
@@ -64,7 +65,7 @@ fn is_named(name: Option<&[u8]>) -> usize
 /// Appends a file.
 fn push_file(table: &mut Table, name: Option<&[u8]>, hash: &[u8]) -> Result<(), AllocError>
     ensures { OnOk result (IsPushed table.old table.new
-        (option_map (λ n. n.now) name.entry, hash.now)) }
+        (seen (λ n. n.now) name.entry, hash.now)) }
 {
     let octets = name_octets(name);
     let at = table.octets.len();

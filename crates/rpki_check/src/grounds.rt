@@ -20,7 +20,7 @@ use std::alloc::Global;
 pub struct Grounds {
     pub issuer: ResourceCert,
     pub lists: Vec<Crl>,
-    pub now: Time,
+    pub moment: Time,
 }
 
 /// The grounds of a question, or why it has none.
@@ -29,15 +29,19 @@ pub fn grounds_of(alloc: Global, question: &Question<'_>) -> Result<Grounds, Ref
 {
     match moment_of(question.moment) {
         None => Err(Refusal::NoMoment),
-        Some(now) => match lists_in(alloc, question.lists) {
+        Some(moment) => match lists_in(alloc, question.lists) {
             Err(refusal) => Err(refusal),
             Ok(lists) => {
-                match issuer_of(alloc, question.anchor, question.chain, &lists, now) {
+                match issuer_of(alloc, question.anchor, question.chain, &lists, moment) {
                     Err(fault) => {
                         drop(lists);
                         Err(Refusal::Issuer(fault))
                     }
-                    Ok(issuer) => Ok(Grounds { issuer, lists, now }),
+                    Ok(issuer) => Ok(Grounds {
+                        issuer,
+                        lists,
+                        moment,
+                    }),
                 }
             }
         },

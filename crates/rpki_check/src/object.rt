@@ -6,7 +6,7 @@ ghost use Rattle.rpki_certs.specs.Cert.{KeptCertificate};
 ghost use Rattle.rpki_rsa.specs.Signature.{is_rsa_signature};
 ghost use Rattle.rpki_sigobj.specs.Object.{mode_of};
 ghost use Rattle.rpki_check.specs.Grounds.{manner_in};
-ghost use Rattle.rpki_check.specs.Object.{ChecksOn, IsFound, IsFoundOn, SaysAs};
+ghost use Rattle.rpki_check.specs.Object.{ChecksOn, IsFound, IsFoundOn, SaysAs, SaysOf};
 ghost use Rattle.rpki_check.specs.Report.{IsRead};
 ghost use Rattle.rpki_check.specs.declared.grounds.Grounds.{Grounds as GroundsOf};
 
@@ -45,10 +45,17 @@ fn object_asking<T: Lines, F: FnOnce(&Cert) -> Result<(), ValidationError>>(
         manner.strict,
         &grounds.issuer,
         &Rsa,
-        grounds.now,
+        grounds.moment,
         ask,
         rule,
     )
+}
+
+/// What the lists of these grounds say of a certificate.
+fn ask_on(grounds: &Grounds, cert: &Cert) -> Result<(), ValidationError>
+    ensures { SaysOf grounds.now cert.now result }
+{
+    ask(&grounds.lists, grounds.issuer.cert(), cert)
 }
 
 /// Whether octets begin with a good object on these grounds, whose certificate no list revokes.
@@ -61,11 +68,7 @@ fn check_on<T: Lines>(
     ensures { ChecksOn T.kind (T.form (T.rule_in manner)) (mode_of manner.strict) grounds.now
         octets result }
 {
-    let lists = grounds.lists.as_slice();
-    let issuer = grounds.issuer.cert();
-    object_asking(alloc, octets, manner, grounds, |cert| {
-        ask(lists, issuer, cert)
-    })
+    object_asking(alloc, octets, manner, grounds, |cert| ask_on(grounds, cert))
 }
 
 /// What is found of octets on these grounds.
@@ -78,15 +81,15 @@ pub fn found_on<T: Lines>(
     ensures { IsFoundOn T.kind (T.form (T.rule_in manner)) (mode_of manner.strict) grounds.now
         octets.now result }
 {
-    match Bytes::copy_from_slice(alloc, octets) {
-        Err(_) => Err(Refusal::Memory),
-        Ok(source) => match check_on::<T>(alloc, source, manner, grounds) {
-            Err(fault) => Err(Refusal::Check(fault)),
-            Ok((cert, content)) => {
-                drop(cert);
-                Ok(content)
-            }
-        },
+    let Ok(source) = Bytes::copy_from_slice(alloc, octets) else {
+        return Err(Refusal::Memory);
+    };
+    match check_on::<T>(alloc, source, manner, grounds) {
+        Ok((cert, content)) => {
+            drop(cert);
+            Ok(content)
+        }
+        Err(fault) => Err(Refusal::Check(fault)),
     }
 }
 
@@ -115,11 +118,11 @@ pub fn read_object<T: Lines>(alloc: Global, octets: &[u8], manner: Manner) -> Re
     ensures { IsRead T.kind (T.form (T.rule_in manner)) (mode_of manner.strict) octets.now result }
 {
     let rule = T::rule(manner);
-    match Bytes::copy_from_slice(alloc, octets) {
-        Err(_) => Err(Refusal::Memory),
-        Ok(source) => match Signed::<T>::decode(alloc, source, manner.strict, rule) {
-            Err(fault) => Err(Refusal::Check(CheckError::Decode(fault))),
-            Ok(object) => Ok(object.into_content()),
-        },
+    let Ok(source) = Bytes::copy_from_slice(alloc, octets) else {
+        return Err(Refusal::Memory);
+    };
+    match Signed::<T>::decode(alloc, source, manner.strict, rule) {
+        Ok(object) => Ok(object.into_content()),
+        Err(fault) => Err(Refusal::Check(CheckError::Decode(fault))),
     }
 }

@@ -4,7 +4,7 @@ ghost use Rattle.std.specs.Prelude.{◌≡◌, IfOk, string_bytes};
 ghost use Rattle.rpki_check.specs.Grounds.{manner_in};
 ghost use Rattle.rpki_sigobj.specs.Object.{mode_of};
 ghost use Rattle.rpki_check.specs.Report.{IsObjectCall, IsReported, IsSaid, IsShowCall, IsShown};
-ghost use Rattle.rpki_check.specs.Report.{text_of};
+ghost use Rattle.rpki_check.specs.Report.{refusal_text, text_of};
 
 use crate::kinds::{Kind, Lines, kind_asked};
 use crate::object::{found_in, read_object};
@@ -15,16 +15,32 @@ use rpki_files::{ManifestContent, ResourceSignedChecklist};
 use rpki_routes::{AsProviderAttestation, RouteOriginAttestation};
 use std::alloc::{AllocError, Global};
 
+/// The lines of a content.
+fn lines_of<T: Lines>(alloc: Global, content: &T) -> Result<String, AllocError>
+    ensures { IfOk result (λ text. string_bytes text ≡ T.lines content.now) }
+{
+    let mut text = String::new(alloc);
+    content.push(alloc, &mut text)?;
+    Ok(text)
+}
+
+/// The text of a refusal.
+fn words_of(alloc: Global, refusal: &Refusal) -> Result<String, AllocError>
+    ensures { IfOk result (λ text. string_bytes text ≡ refusal_text refusal.now) }
+{
+    let mut text = String::new(alloc);
+    refusal.push(&mut text)?;
+    Ok(text)
+}
+
 /// The lines of what is found, or why nothing is.
 fn text_of<T: Lines>(alloc: Global, found: &Result<T, Refusal>) -> Result<String, AllocError>
     ensures { IfOk result (λ text. string_bytes text ≡ text_of T.lines found.now) }
 {
-    let mut text = String::new(alloc);
     match found {
-        Ok(content) => content.push(alloc, &mut text)?,
-        Err(refusal) => refusal.push(&mut text)?,
+        Ok(content) => lines_of(alloc, content),
+        Err(refusal) => words_of(alloc, refusal),
     }
-    Ok(text)
 }
 
 /// Puts the text of what is found into a room, and gives the status.

@@ -1,4 +1,4 @@
-use Rattle.std.proofs.Common.{inr, refl, ap, ◌∙◌, subst}
+use Rattle.std.proofs.Common.{inr, refl, ◌∙◌}
 use Rattle.rpki_sigobj.specs.Object.{mode_of}
 use Rattle.rpki_check.proofs.Naming.{other, unnamed}
 use Rattle.rpki_check.proofs.kinds.kind_in.Goals as goal
@@ -23,5 +23,6 @@ returns c =
     inr (
       refl,
       other (mode_of c.args.strict) c.args.octets.now _ c.in-Ok.ensures
-          c.in-Ok-decode.object.object d.0 d.1 ?,
+          c.in-Ok-decode.object.object d.0 d.1
+          (λ k e. c.in-None.ensures k (c.content_type.ensures ∙ e)),
     )
