@@ -7,13 +7,13 @@ use Rattle.rpki_certs.specs.Issuer.{Then}
 use Rattle.rpki_certs.specs.Validate.{Validated}
 use Rattle.rpki_certs.specs.declared.issuer.IssuerError.{IssuerError}
 use Rattle.rpki_crls.specs.Crl.{KeptCrl}
-use Rattle.rpki_check.specs.Grounds.{IsNext, Leads}
+use Rattle.rpki_check.specs.Grounds.{IsNextCa, Leads}
 use Rattle.rpki_check.specs.declared.question.Octets.{Octets}
 
 module _ (lists : List KeptCrl) (now : Moment) (issuer : Validated)
     (next : Result Validated IssuerError) (result : Result Validated IssuerError) where
   step : (chain : List Octets) (i : ℕ) (d : Octets) → i < length chain
-      → IsNext lists now issuer (get_or chain i d).octets.now next
+      → IsNextCa lists now issuer (get_or chain i d).octets.now next
       → Then (λ valid. Leads lists now valid (drop (suc i) chain) result) next result
       → Leads lists now issuer (drop i chain) result
   step [] i d l is t = absurd (omega (arith, l))
@@ -22,7 +22,7 @@ module _ (lists : List KeptCrl) (now : Moment) (issuer : Validated)
 
   -- what is answered of a certificate and of those after it
   pub one-more : (chain : List Octets) (i j : ℕ) (d : Octets) → j ≡ i + 1 → i < length chain
-      → IsNext lists now issuer (get_or chain i d).octets.now next
+      → IsNextCa lists now issuer (get_or chain i d).octets.now next
       → Then (λ valid. Leads lists now valid (drop j chain) result) next result
       → Leads lists now issuer (drop i chain) result
   one-more chain i j d e l is t =

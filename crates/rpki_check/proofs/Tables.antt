@@ -13,15 +13,15 @@ pub record IsPart (t : Table) (left all : List Named) : Type 0 where
   pub octets : t.octets.items ++ flat_map file_octets left ≡ flat_map file_octets all
 
 -- an empty table has none
-pub none-yet : (t : Table) (all : List Named) → t.rows.items ≡ [] → t.octets.items ≡ []
-    → IsPart t all all
-none-yet t all e f = record {
+pub none-yet : (t : Table) (left all : List Named) → left ≡ all → t.rows.items ≡ []
+    → t.octets.items ≡ [] → IsPart t left all
+none-yet t left all s e f = subst (λ (fs : List Named). IsPart t fs all) (sym s) (record {
   rows =
       subst (λ (rs : List Entry). rs ++ entries_at (length t.octets.items) all ≡ entries_at 0 all)
       (sym e) (ap (λ (os : List ℕ). entries_at (length os) all) f);
   octets =
       subst (λ (os : List ℕ). os ++ flat_map file_octets all ≡ flat_map file_octets all) (sym f) refl;
-}
+})
 
 -- one file more
 pub one-file : (old new : Table) (f : Named) (before left all : List Named) → before ≡ f ∷ left

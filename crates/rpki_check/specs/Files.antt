@@ -7,7 +7,7 @@ use Rattle.rpki_files.specs.Manifest.{Manifest}
 use Rattle.rpki_sigobj.specs.Signed.Kind.{ObjectKind}
 use Rattle.rpki_check.specs.Numbers.{refusal_number}
 use Rattle.rpki_check.specs.Object.{IsFound}
-use Rattle.rpki_check.specs.Room.{IsWritten}
+use Rattle.rpki_check.specs.Room.{IsInRoom}
 use Rattle.rpki_check.specs.declared.files.Entry.{Entry}
 use Rattle.rpki_check.specs.declared.files.Table.{Table}
 use Rattle.rpki_check.specs.declared.question.Question.{Question}
@@ -67,8 +67,8 @@ pub record IsPushed (old new : Table) (f : Named) : Type 0 where
 -- What a call leaves in its two rooms: these rows, and these octets.
 pub record AreWritten (rows old new : List Entry) (count : ℕ) (octets before after : List ℕ)
     (len : ℕ) : Type 0 where
-  pub in_room : IsWritten rows old new count
-  pub in_place : IsWritten octets before after len
+  pub in_room : IsInRoom rows old new count
+  pub in_place : IsInRoom octets before after len
 
 -- What a call leaves where this is found: its status, with the table of the files, or with none
 -- where there is none; or that memory ran out.

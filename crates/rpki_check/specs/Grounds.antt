@@ -49,11 +49,11 @@ manner_in q = record {
 
 -- What is answered of the certificate of a CA under this issuer: it, if it is valid (`IsIssued`) and
 -- no list revokes it; and else why not.
-abbrev pub IsNext : List KeptCrl → Moment → Validated → List ℕ → Result Validated IssuerError
+abbrev pub IsNextCa : List KeptCrl → Moment → Validated → List ℕ → Result Validated IssuerError
     → Type 0
-IsNext lists now issuer octets (Ok next) = IsIssued is_rsa_signature now issuer octets (Ok next)
+IsNextCa lists now issuer octets (Ok next) = IsIssued is_rsa_signature now issuer octets (Ok next)
     × IsUnrevoked lists issuer.cert.certificate next.cert.certificate
-IsNext lists now issuer octets (Err fault) = IsIssued is_rsa_signature now issuer octets (Err fault)
+IsNextCa lists now issuer octets (Err fault) = IsIssued is_rsa_signature now issuer octets (Err fault)
     ⊎ ((fault ≡ Validation (Verification faults.Revoked))
     × ((next : Validated) × IsIssued is_rsa_signature now issuer octets (Ok next)
     × ¬ IsUnrevoked lists issuer.cert.certificate next.cert.certificate))
@@ -65,7 +65,7 @@ abbrev pub Leads : List KeptCrl → Moment → Validated → List Octets → Res
     → Type 0
 Leads lists now first [] result = result ≡ Ok first
 Leads lists now first (one ∷ others) result =
-    (next : Result Validated IssuerError) × IsNext lists now first one.octets.now next
+    (next : Result Validated IssuerError) × IsNextCa lists now first one.octets.now next
     × Then (λ valid. Leads lists now valid others result) next result
 
 -- What is answered of a trust anchor's certificate and of a chain under it (`MakesIssuer`), where

@@ -8,7 +8,7 @@ use Rattle.rpki_check.specs.Grounds.{AreGroundsOf, HasNoGrounds, manner_in}
 use Rattle.rpki_check.specs.Kinds.{AsksFor, OfKind}
 use Rattle.rpki_check.specs.Numbers.{refusal_number, status_of}
 use Rattle.rpki_check.specs.Object.{IsFoundOn}
-use Rattle.rpki_check.specs.Room.{IsWritten}
+use Rattle.rpki_check.specs.Room.{IsInRoom}
 use Rattle.rpki_check.specs.declared.grounds.Grounds.{Grounds}
 use Rattle.rpki_check.specs.declared.kinds.Kind.{Kind}
 use Rattle.rpki_check.specs.declared.many.Object.{Object}
@@ -42,8 +42,8 @@ pub record AreJudged (q : Question) (objects : List Object) (statuses : List ℕ
 -- grounds, unless memory ran out.
 abbrev pub IsManyCall : Question → List Object → List ℕ → List ℕ → ℕ → ℕ → Type 0
 IsManyCall q objects old new count status =
-    ((status ≡ 1) × IsWritten [] old new count)
+    ((status ≡ 1) × IsInRoom [] old new count)
     ⊎ (((refusal : Refusal) × HasNoGrounds q refusal × (status ≡ refusal_number refusal)
-    × IsWritten [] old new count)
+    × IsInRoom [] old new count)
     ⊎ ((statuses : List ℕ) × AreJudged q objects statuses × (status ≡ 0)
-    × IsWritten statuses old new count))
+    × IsInRoom statuses old new count))

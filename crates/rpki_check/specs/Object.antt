@@ -16,6 +16,7 @@ use Rattle.rpki_signed.specs.declared.check.CheckError.{CheckError}
 use Rattle.rpki_sigobj.specs.Object.{mode_of}
 use Rattle.rpki_sigobj.specs.Signed.Kind.{ObjectKind}
 use Rattle.rpki_check.specs.Grounds.{AreGroundsOf, HasNoGrounds, manner_in}
+use Rattle.rpki_check.specs.Numbers.{refusal_number, status_of}
 use Rattle.rpki_check.specs.Revoked.{IsUnrevoked}
 use Rattle.rpki_check.specs.declared.grounds.Grounds.{Grounds}
 use Rattle.rpki_check.specs.declared.question.Manner.{Manner}
@@ -95,5 +96,14 @@ pub record IsNotGoodOn {X : Type 0} (kind : ObjectKind X) (form : List ℕ → X
 abbrev pub IsNotGoodFor : {X : Type 0} → ObjectKind X → (List ℕ → X → Type 0) → Question → List ℕ
     → Type 0
 IsNotGoodFor kind form q octets =
-    ((refusal : Refusal) × HasNoGrounds q refusal × (¬ (refusal ≡ Memory)))
+    ((refusal : Refusal) × HasNoGrounds q refusal × (¬ (refusal_number refusal ≡ 1)))
     ⊎ IsNotGoodOn kind form q octets
+
+-- The status of what is found of this kind is 0 exactly where the octets begin with a good object:
+-- where it is neither 0 nor 1, for want of memory, they begin with none.
+pub record IsDecided {X : Type 0} (kind : ObjectKind X) (form : List ℕ → X → Type 0) : Type 0 where
+  pub yes : (q : Question) (octets : List ℕ) (found : Result X Refusal)
+      → IsFound kind form q octets found → status_of found ≡ 0 → IsGoodFor kind form q octets
+  pub no : (q : Question) (octets : List ℕ) (found : Result X Refusal)
+      → IsFound kind form q octets found → ¬ (status_of found ≡ 0) → ¬ (status_of found ≡ 1)
+      → IsNotGoodFor kind form q octets

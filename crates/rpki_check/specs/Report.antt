@@ -14,7 +14,7 @@ use Rattle.rpki_check.specs.Grounds.{manner_in}
 use Rattle.rpki_check.specs.Kinds.{AsksFor, OfKind}
 use Rattle.rpki_check.specs.Numbers.{status_of}
 use Rattle.rpki_check.specs.Object.{IsFound}
-use Rattle.rpki_check.specs.Room.{IsWritten}
+use Rattle.rpki_check.specs.Room.{IsInRoom}
 use Rattle.rpki_check.specs.declared.kinds.Kind.{Kind}
 use Rattle.rpki_check.specs.declared.question.Manner.{Manner}
 use Rattle.rpki_check.specs.declared.question.Question.{Question}
@@ -39,8 +39,8 @@ text_of lines (Err refusal) = refusal_text refusal
 abbrev pub IsReported : {X : Type 0} → (X → List ℕ) → Result X Refusal → List ℕ → List ℕ → ℕ → ℕ
     → Type 0
 IsReported lines found old new len status =
-    ((status ≡ 1) × IsWritten [] old new len)
-    ⊎ ((status ≡ status_of found) × IsWritten (text_of lines found) old new len)
+    ((status ≡ 1) × IsInRoom [] old new len)
+    ⊎ ((status ≡ status_of found) × IsInRoom (text_of lines found) old new len)
 
 -- What a call leaves that asks about the object at the front of octets: what is found of it.
 abbrev pub IsSaid : {X : Type 0} → ObjectKind X → (List ℕ → X → Type 0) → (X → List ℕ) → Question
@@ -52,7 +52,7 @@ IsSaid {X} kind form lines q octets old new len status = (found : Result X Refus
 abbrev pub IsKindless : Mode → ℕ → List ℕ → List ℕ → List ℕ → ℕ → ℕ → Type 0
 IsKindless mode number octets old new len status =
     ((status ≡ 1) ⊎ ((status ≡ 3) × ((k : Kind) → AsksFor mode number octets k → ⊥)))
-    × IsWritten [] old new len
+    × IsInRoom [] old new len
 
 -- What it leaves for the kind that a number asks for, if there is one.
 abbrev pub IsObjectCall : Question → ℕ → List ℕ → List ℕ → List ℕ → ℕ → ℕ → Type 0
@@ -66,20 +66,20 @@ IsObjectCall q number octets old new len status =
 
 -- what is read of octets: the content of the object that they begin with, or that there is none,
 -- unless memory ran out
-abbrev pub IsRead : {X : Type 0} → ObjectKind X → (List ℕ → X → Type 0) → Mode → List ℕ
+abbrev pub IsObjectRead : {X : Type 0} → ObjectKind X → (List ℕ → X → Type 0) → Mode → List ℕ
     → Result X Refusal → Type 0
-IsRead {X} kind form mode octets (Ok x) =
+IsObjectRead {X} kind form mode octets (Ok x) =
     BeginsWith (ObjectForm kind.type form mode) octets (λ (o : Whole X). x ≡ o.content)
-IsRead kind form mode octets (Err (Check (Decode fault))) =
+IsObjectRead kind form mode octets (Err (Check (Decode fault))) =
     Refuses fault (HasNoFront (ObjectForm kind.type form mode) octets)
-IsRead kind form mode octets (Err Memory) = Unit {0}
-IsRead kind form mode octets (Err other) = ⊥
+IsObjectRead kind form mode octets (Err Memory) = Unit {0}
+IsObjectRead kind form mode octets (Err other) = ⊥
 
 -- What a call leaves that shows the object at the front of octets.
 abbrev pub IsShown : {X : Type 0} → ObjectKind X → (List ℕ → X → Type 0) → (X → List ℕ) → Mode
     → List ℕ → List ℕ → List ℕ → ℕ → ℕ → Type 0
 IsShown {X} kind form lines mode octets old new len status = (read : Result X Refusal)
-    × IsRead kind form mode octets read × IsReported lines read old new len status
+    × IsObjectRead kind form mode octets read × IsReported lines read old new len status
 
 -- What it leaves for the kind that a number asks for, if there is one.
 abbrev pub IsShowCall : Manner → ℕ → List ℕ → List ℕ → List ℕ → ℕ → ℕ → Type 0

@@ -8,7 +8,7 @@ use Rattle.rpki_routes.specs.Roa.{FamilyAddress, Roa, addresses}
 use Rattle.rpki_sigobj.specs.Signed.Kind.{ObjectKind}
 use Rattle.rpki_check.specs.Numbers.{refusal_number}
 use Rattle.rpki_check.specs.Object.{IsFound}
-use Rattle.rpki_check.specs.Room.{IsWritten}
+use Rattle.rpki_check.specs.Room.{IsInRoom}
 use Rattle.rpki_check.specs.declared.question.Question.{Question}
 use Rattle.rpki_check.specs.declared.refusal.Refusal.{Refusal}
 use Rattle.rpki_check.specs.declared.rows.Payload.{Payload}
@@ -42,10 +42,10 @@ numbers a = a.customer ∷ a.providers
 abbrev pub IsPut : {X R : Type 0} → (X → List R) → Result X Refusal → List R → List R → ℕ → ℕ
     → Type 0
 IsPut rows (Ok x) old new count status =
-    ((status ≡ 1) × IsWritten [] old new count)
-    ⊎ ((status ≡ 0) × IsWritten (rows x) old new count)
+    ((status ≡ 1) × IsInRoom [] old new count)
+    ⊎ ((status ≡ 0) × IsInRoom (rows x) old new count)
 IsPut rows (Err refusal) old new count status =
-    (status ≡ refusal_number refusal) × IsWritten [] old new count
+    (status ≡ refusal_number refusal) × IsInRoom [] old new count
 
 -- What a call leaves that asks for the rows of the object at the front of octets.
 abbrev pub IsRowsCall : {X R : Type 0} → ObjectKind X → (List ℕ → X → Type 0) → (X → List R)

@@ -20,7 +20,7 @@ ghost use Rattle.rpki_check.specs.Rows.{IsRowsCall, numbers, payloads};
 use crate::files::{Entry, checklist_files, manifest_files};
 use crate::many::{Object, judge};
 use crate::question::{Question, manner_of};
-use crate::report::{report_kind, show_kind};
+use crate::report::{report_asked, show_asked};
 use crate::rows::{Payload, aspa_rows, roa_rows};
 use bytes::Bytes;
 use rpki_basics::{Crypto, PublicKey, RpkiSignature, RpkiSignatureAlgorithm};
@@ -74,7 +74,7 @@ pub extern "C" fn rpki_check_object(
 ) -> u32
     ensures { IsObjectCall question.now kind object.now room.old room.new len.new result }
 {
-    report_kind(alloc, question, kind, object, room, len)
+    report_asked(alloc, question, kind, object, room, len)
 }
 
 /// What the object of a kind at the front of octets says, without a check. Of the question, the
@@ -90,7 +90,7 @@ pub extern "C" fn rpki_check_show(
 ) -> u32
     ensures { IsShowCall (manner_in question.now) kind object.now room.old room.new len.new result }
 {
-    show_kind(alloc, manner_of(question), kind, object, room, len)
+    show_asked(alloc, manner_of(question), kind, object, room, len)
 }
 
 /// Whether objects are good, all on the grounds of one question: the status of each.

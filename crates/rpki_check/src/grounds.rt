@@ -29,7 +29,7 @@ pub fn grounds_of(alloc: Global, question: &Question<'_>) -> Result<Grounds, Ref
 {
     match moment_of(question.moment) {
         None => Err(Refusal::NoMoment),
-        Some(moment) => match lists_in(alloc, question.lists) {
+        Some(moment) => match lists_of(alloc, question.lists) {
             Err(refusal) => Err(refusal),
             Ok(lists) => {
                 match issuer_of(alloc, question.anchor, question.chain, &lists, moment) {
@@ -49,7 +49,7 @@ pub fn grounds_of(alloc: Global, question: &Question<'_>) -> Result<Grounds, Ref
 }
 
 /// The lists that the octets begin with, one each.
-fn lists_in(alloc: Global, octets: &[Octets<'_>]) -> Result<Vec<Crl>, Refusal>
+fn lists_of(alloc: Global, octets: &[Octets<'_>]) -> Result<Vec<Crl>, Refusal>
     ensures { IsListing octets.now result }
 {
     let mut lists = Vec::new(alloc);

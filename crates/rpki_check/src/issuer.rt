@@ -3,7 +3,7 @@
 ghost use Rattle.std.specs.Prelude.{◌↔◌, [], IsTrue};
 ghost use Rattle.rpki_certs.specs.Issuer.{IsIssued, MakesIssuer};
 ghost use Rattle.rpki_rsa.specs.Signature.{is_rsa_signature};
-ghost use Rattle.rpki_check.specs.Grounds.{IsIssuerOf, IsNext, Leads};
+ghost use Rattle.rpki_check.specs.Grounds.{IsIssuerOf, IsNextCa, Leads};
 ghost use Rattle.rpki_check.specs.Revoked.{IsUnrevoked};
 
 use crate::question::Octets;
@@ -78,7 +78,7 @@ fn next_under(
     lists: &[Crl],
     now: Time,
 ) -> Result<ResourceCert, IssuerError>
-    ensures { IsNext lists.now now issuer.now octets.now result }
+    ensures { IsNextCa lists.now now issuer.now octets.now result }
 {
     match issued_under(alloc, issuer, octets, now) {
         Err(fault) => Err(fault),

@@ -9,6 +9,7 @@ mod files;
 mod grounds;
 mod issuer;
 mod kinds;
+mod laws;
 mod many;
 mod numbers;
 mod object;

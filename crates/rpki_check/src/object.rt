@@ -7,7 +7,7 @@ ghost use Rattle.rpki_rsa.specs.Signature.{is_rsa_signature};
 ghost use Rattle.rpki_sigobj.specs.Object.{mode_of};
 ghost use Rattle.rpki_check.specs.Grounds.{manner_in};
 ghost use Rattle.rpki_check.specs.Object.{ChecksOn, IsFound, IsFoundOn, SaysAs, SaysOf};
-ghost use Rattle.rpki_check.specs.Report.{IsRead};
+ghost use Rattle.rpki_check.specs.Report.{IsObjectRead};
 ghost use Rattle.rpki_check.specs.declared.grounds.Grounds.{Grounds as GroundsOf};
 
 use crate::grounds::{Grounds, grounds_of};
@@ -115,7 +115,7 @@ pub fn found_in<T: Lines>(
 
 /// What is read of octets, without a check.
 pub fn read_object<T: Lines>(alloc: Global, octets: &[u8], manner: Manner) -> Result<T, Refusal>
-    ensures { IsRead T.kind (T.form (T.rule_in manner)) (mode_of manner.strict) octets.now result }
+    ensures { IsObjectRead T.kind (T.form (T.rule_in manner)) (mode_of manner.strict) octets.now result }
 {
     let rule = T::rule(manner);
     let Ok(source) = Bytes::copy_from_slice(alloc, octets) else {

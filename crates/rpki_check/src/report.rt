@@ -83,7 +83,7 @@ fn report<T: Lines>(
 }
 
 /// The same for the kind that a number asks for.
-pub fn report_kind(
+pub fn report_asked(
     alloc: Global,
     question: &Question<'_>,
     number: u32,
@@ -125,7 +125,7 @@ fn show<T: Lines>(
 }
 
 /// The same for the kind that a number asks for.
-pub fn show_kind(
+pub fn show_asked(
     alloc: Global,
     manner: Manner,
     number: u32,

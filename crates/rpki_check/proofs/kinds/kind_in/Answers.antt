@@ -7,14 +7,14 @@ pub returns-in-Err-Malformed : goal.returns-in-Err-Malformed
 returns-in-Err-Malformed c = inr (
   refl,
   unnamed (mode_of c.args.strict) c.args.octets.now _ c.in-Ok.ensures
-      c.in-Err-Malformed.ensures.decodes,
+      (rw c.in-Err-Malformed.field-0-is at c.in-Err-Malformed.ensures.decodes),
 )
 
 pub returns-in-Err-Content : goal.returns-in-Err-Content
 returns-in-Err-Content c = inr (
   refl,
   unnamed (mode_of c.args.strict) c.args.octets.now _ c.in-Ok.ensures
-      c.in-Err-Content.ensures.decodes,
+      (rw c.in-Err-Content.field-0-is at c.in-Err-Content.ensures.decodes),
 )
 
 pub returns : goal.returns

@@ -11,7 +11,7 @@ loop-object-preserved c =
     let l = c.loop-object in
     let R : Object → ℕ → Type 0 = IsStatusOn c.args.manner c.args.grounds.now in
     subst (λ (statuses : List ℕ). AllZip R (take (l.object-index + 1) c.args.objects.now) statuses)
-    (sym c.in_ok-push.ensures.items)
+    (sym {A = List ℕ} c.in_ok-push.ensures.items)
     (zip-more R c.args.objects.now l.statuses.items l.object-index _ c.status_on.result
     c.loop-object-test.true l.invariant c.status_on.ensures)
 

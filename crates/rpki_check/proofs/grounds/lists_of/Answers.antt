@@ -5,7 +5,7 @@ use Rattle.rpki_check.specs.Grounds.{AreLists}
 use Rattle.rpki_check.specs.Revoked.{IsList}
 use Rattle.rpki_check.specs.declared.question.Octets.{Octets}
 use Rattle.rpki_check.proofs.Steps.{zip-more}
-use Rattle.rpki_check.proofs.grounds.lists_in.Goals as goal
+use Rattle.rpki_check.proofs.grounds.lists_of.Goals as goal
 
 pub loop-one-preserved : goal.loop-one-preserved
 loop-one-preserved c =

@@ -1,6 +1,6 @@
 use Rattle.std.proofs.Common.{take}
 use Rattle.rpki_check.specs.Grounds.{AreLists}
-use Rattle.rpki_check.proofs.grounds.lists_in.Given as goal
+use Rattle.rpki_check.proofs.grounds.lists_of.Given as goal
 
 -- the lists so far
 abbrev pub invariant-loop-one : goal.invariant-loop-one
