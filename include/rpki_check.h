@@ -146,6 +146,12 @@ uint32_t rpki_check_object(const rpki_question *question, uint32_t kind,
     const uint8_t *object, size_t object_length,
     char *text, size_t room, size_t *length);
 
+/* Checks a multi-signed attestation in the same way. The issuer that the certificates
+ * make is the one CA under which it may be granted; lists count for its certificates. */
+uint32_t rpki_check_attestation(const rpki_question *question,
+    const uint8_t *object, size_t object_length,
+    char *text, size_t room, size_t *length);
+
 /*
  * What an object of a kind says, without a check: RPKI_GOOD says only that the octets
  * begin with one. Of the question, the options alone are looked at.

@@ -41,7 +41,7 @@ func main() {
 	}
 	part := func(at int) C.uint8_t { return C.uint8_t(number(moment[at : at+2])) }
 	question := C.rpki_question{anchor: octetsOf(words[3]), chain: &chain[0], chain_length: C.size_t(len(words) - 4)}
-	question.moment = C.rpki_moment{C.uint16_t(number(moment[:4])), part(4), part(6), part(8), part(10), part(12)}
+	question.moment = C.rpki_moment{year: C.uint16_t(number(moment[:4])), month: part(4), day: part(6), hour: part(8), minute: part(10), second: part(12)}
 
 	// how long the text is, and then the text
 	var length, count C.size_t

@@ -1,3 +1,4 @@
+pub mod Attestation
 pub mod Files
 pub mod Grounds
 pub mod Kinds

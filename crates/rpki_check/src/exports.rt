@@ -10,6 +10,7 @@ ghost use Rattle.rpki_routes.specs.Aspa.Checks.{aspa_kind};
 ghost use Rattle.rpki_routes.specs.Aspa.Form.{AspaForm};
 ghost use Rattle.rpki_routes.specs.Roa.Checks.{roa_kind};
 ghost use Rattle.rpki_routes.specs.Roa.Form.{RoaForm};
+ghost use Rattle.rpki_check.specs.Attestation.{IsAttestationCall};
 ghost use Rattle.rpki_check.specs.Files.{IsFilesCall, checked_files, listed_files};
 ghost use Rattle.rpki_check.specs.Grounds.{manner_in};
 ghost use Rattle.rpki_check.specs.Many.{IsManyCall};
@@ -17,6 +18,7 @@ ghost use Rattle.rpki_check.specs.Numbers.{IsVerdict};
 ghost use Rattle.rpki_check.specs.Report.{IsObjectCall, IsShowCall};
 ghost use Rattle.rpki_check.specs.Rows.{IsRowsCall, numbers, payloads};
 
+use crate::attestation::report_attestation;
 use crate::files::{Entry, checklist_files, manifest_files};
 use crate::many::{Object, judge};
 use crate::question::{Question, manner_of};
@@ -75,6 +77,21 @@ pub extern "C" fn rpki_check_object(
     ensures { IsObjectCall question.now kind object.now room.old room.new len.new result }
 {
     report_asked(alloc, question, kind, object, room, len)
+}
+
+/// Whether octets begin with a multi-signed attestation that is granted, where the issuer that the
+/// certificates make is the CA that is supplied.
+#[unsafe(no_mangle)]
+pub extern "C" fn rpki_check_attestation(
+    alloc: Global,
+    question: &Question<'_>,
+    object: &[u8],
+    room: &mut [u8],
+    len: &mut usize,
+) -> u32
+    ensures { IsAttestationCall question.now object.now room.old room.new len.new result }
+{
+    report_attestation(alloc, question, object, room, len)
 }
 
 /// What the object of a kind at the front of octets says, without a check. Of the question, the

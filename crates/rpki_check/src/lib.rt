@@ -4,6 +4,7 @@
 //! don't meet. It requires nothing of its caller but what the types of its parameters say.
 #![tactic(auto)]
 
+mod attestation;
 mod exports;
 mod files;
 mod grounds;

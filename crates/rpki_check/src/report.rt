@@ -25,7 +25,7 @@ fn lines_of<T: Lines>(alloc: Global, content: &T) -> Result<String, AllocError>
 }
 
 /// The text of a refusal.
-fn words_of(alloc: Global, refusal: &Refusal) -> Result<String, AllocError>
+pub fn words_of(alloc: Global, refusal: &Refusal) -> Result<String, AllocError>
     ensures { IfOk result (λ text. string_bytes text ≡ refusal_text refusal.now) }
 {
     let mut text = String::new(alloc);
