@@ -80,3 +80,7 @@ pushed {X} {Y} f items more p a old new all e g h i =
 -- what a test denies does not hold
 pub not-true : {P : Type 0} (b : Bool) → b ≡ false → IsTrue b ↔ P → P → ⊥
 not-true b e h p = let t : b ≡ true = h.1 p in absurd cc
+
+-- a test that fails decides what does not hold
+pub false-only : {P : Type 0} → (P → ⊥) → IsTrue false ↔ P
+false-only none = (λ t. absurd cc, λ p. absurd (none p))

@@ -6,9 +6,9 @@ use Rattle.rpki_crls.specs.Crl.{KeptCrl}
 use Rattle.rpki_faults.specs.declared.validation.ValidationError.TheVariants.{Verification}
 use Rattle.rpki_faults.specs.declared.verification.VerificationError.TheVariants.{Caller}
 use Rattle.rpki_multi.specs.Attestation.{KeptWhole}
-use Rattle.rpki_paths.specs.declared.supply.Supplied.TheVariants.{Ca}
+use Rattle.rpki_paths.specs.Anchor.{Supply}
 use Rattle.rpki_rsa.specs.Signature.{is_rsa_signature}
-use Rattle.rpki_rta.specs.Refused.{supply_in}
+use Rattle.rpki_rta.specs.Carried.{set_of}
 use Rattle.rpki_show.specs.Texts.Rta.{attestation_text}
 use Rattle.rpki_signed.specs.Attested.{IsExactRta}
 use Rattle.rpki_signed.specs.declared.check.CheckError.{CheckError}
@@ -39,11 +39,15 @@ NoneIsRevoked lists issuer certs = All (λ k. ¬ IsRevokedOf lists issuer k.cert
 abbrev pub IsUnrevokedOn : Grounds → KeptWhole → Type 0
 IsUnrevokedOn g k = NoneIsRevoked g.lists.items g.issuer.cert.certificate k.signed.certs
 
--- What a check of an attestation answers where the issuer of these grounds is the one CA that is
--- supplied (`IsExactRta`).
+-- the issuer of these grounds as a CA that is supplied
+abbrev pub supply_on : Grounds → Supply
+supply_on g = Supply.Ca g.issuer.cert.certificate.tbs.extensions.key.subject_key
+    g.issuer.cert.certificate.tbs.key (set_of g.issuer.sets)
+
+-- What a check of an attestation answers where that is the one supply (`IsExactRta`).
 abbrev pub GrantsOn : Grounds → List ℕ → Result KeptWhole CheckError → Type 0
 GrantsOn g octets result =
-    IsExactRta sha256 is_rsa_signature g.moment (supply_in (Ca g.issuer) ∷ []) octets result
+    IsExactRta sha256 is_rsa_signature g.moment (supply_on g ∷ []) octets result
 
 -- The attestation is granted, and a list revokes one of its certificates, which the caller refuses.
 abbrev pub IsRefusedByList : Grounds → List ℕ → CheckError → Type 0

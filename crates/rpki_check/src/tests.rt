@@ -3,14 +3,14 @@
 mod octets;
 
 use crate::exports::{
-    rpki_check_aspa, rpki_check_checklist, rpki_check_manifest, rpki_check_object,
-    rpki_check_objects, rpki_check_roa, rpki_check_show, rpki_check_version,
+    rpki_check_aspa, rpki_check_attestation, rpki_check_checklist, rpki_check_manifest,
+    rpki_check_object, rpki_check_objects, rpki_check_roa, rpki_check_show, rpki_check_version,
 };
 use crate::files::Entry;
 use crate::many::Object;
 use crate::question::{Date, Octets, Question};
 use crate::rows::Payload;
-use octets::{ANCHOR, AUTHORITY, LETTER, MANIFEST, ORIGIN, PROVIDERS, REVOKING};
+use octets::{ANCHOR, AUTHORITY, HOLDING, LETTER, MANIFEST, ORIGIN, PROVIDERS, REVOKING};
 use std::alloc::Global;
 
 static CHAIN: [Octets<'static>; 1] = [Octets { octets: AUTHORITY }];
@@ -71,6 +71,18 @@ fn objects_are_shown(rt: HostRuntime) {
     assert_eq!(rt; &room[..62], text.as_slice());
     let status = rpki_check_show(rt.alloc(), &question, 0, ANCHOR, &mut room, &mut len);
     assert_eq!(rt; (status, len), (3, 0));
+}
+
+#[test]
+fn attestations_are_granted(rt: HostRuntime) {
+    let alloc = rt.alloc();
+    let mut room = [0; 4];
+    let mut len = 0;
+    let question = asked(2027, &[]);
+    let status = rpki_check_attestation(alloc, &question, HOLDING, &mut room, &mut len);
+    assert_eq!(rt; status, 0);
+    let status = rpki_check_attestation(alloc, &question, ORIGIN, &mut room, &mut len);
+    assert_eq!(rt; status, 100);
 }
 
 #[test]

@@ -3,7 +3,7 @@ use Rattle.std.proofs.lemmas.List.{take_all}
 use Rattle.std.proofs.lemmas.List.Elements.{All-more}
 use Rattle.rpki_certs.specs.Cert.{KeptCertificate}
 use Rattle.rpki_check.specs.Attestation.{IsRevokedOf, NoneIsRevoked}
-use Rattle.rpki_check.proofs.Steps.{not-true}
+use Rattle.rpki_check.proofs.Steps.{false-only, not-true}
 use Rattle.rpki_check.proofs.attestation.none_is_revoked.Goals as goal
 
 pub loop-cert-preserved : goal.loop-cert-preserved
@@ -14,6 +14,13 @@ loop-cert-preserved c =
     c.loop-cert.invariant
     (subst P c.cert-item.is (not-true c.is_revoked_of.result c.if-is_revoked_of.false
     c.is_revoked_of.ensures))
+
+pub returns-then-is_revoked_of : goal.returns-then-is_revoked_of
+returns-then-is_revoked_of c =
+    let P : KeptCertificate → Type 0 = λ k.
+    IsRevokedOf c.args.lists.now c.args.issuer.now.certificate k.certificate in
+    false-only (λ none. none c.loop-cert.cert-index c.cert-item.result c.loop-cert-test.true
+    (subst P c.cert-item.is (c.is_revoked_of.ensures.0 c.if-is_revoked_of.true)))
 
 pub returns : goal.returns
 returns c = (
