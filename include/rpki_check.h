@@ -128,20 +128,18 @@ typedef struct rpki_question {
 	uint8_t wide;               /* not 0: up to 65,535 providers */
 } rpki_question;
 
-/*
- * Checks an object of a kind. The answer is RPKI_GOOD exactly if the certificates
+/* Checks an object of a kind. The answer is RPKI_GOOD exactly if the certificates
  * make an issuer (RFC 6487, section 7.2), the octets begin with an object of the
  * kind that is good under it at the moment, and no list revokes a certificate of
  * the chain or that of the object; unless memory runs out. Octets after the object
  * are ignored. The times of lists are not looked at.
  *
- * The text is what a good object says, a line an item, as `rpki_verify show` has
- * them, or why there is none. It is UTF-8 without a 0 at its end.
+ * The text is what a good object says, a line an item, as `rpki_verify check` has
+ * them below its yes, or why there is none. It is UTF-8 without a 0 at its end.
  *
  * *length is always the length of the whole text. The text is written if it fits
  * into the room, and else nothing is: call again with a room of *length octets,
- * which gives the same answer. A room of NULL and 0 asks for the status alone.
- */
+ * which gives the same answer. A room of NULL and 0 asks for the status alone. */
 uint32_t rpki_check_object(const rpki_question *question, uint32_t kind,
     const uint8_t *object, size_t object_length,
     char *text, size_t room, size_t *length);
@@ -152,10 +150,8 @@ uint32_t rpki_check_attestation(const rpki_question *question,
     const uint8_t *object, size_t object_length,
     char *text, size_t room, size_t *length);
 
-/*
- * What an object of a kind says, without a check: RPKI_GOOD says only that the octets
- * begin with one. Of the question, the options alone are looked at.
- */
+/* What an object of a kind says, without a check: RPKI_GOOD says only that the octets
+ * begin with one. Of the question, the options alone are looked at. */
 uint32_t rpki_check_show(const rpki_question *question, uint32_t kind,
     const uint8_t *object, size_t object_length,
     char *text, size_t room, size_t *length);
@@ -166,12 +162,10 @@ typedef struct rpki_object {
 	rpki_octets octets;
 } rpki_object;
 
-/*
- * Checks many objects on one question, whose certificates and lists are read once.
+/* Checks many objects on one question, whose certificates and lists are read once.
  * The answer is RPKI_GOOD with *count = objects_length and a status of each object,
  * as rpki_check_object answers it, or the number of what is wrong with the question
- * with *count = 0. The statuses are written if all fit into the room, and else none.
- */
+ * with *count = 0. The statuses are written if all fit into the room, and else none. */
 uint32_t rpki_check_objects(const rpki_question *question,
     const rpki_object *objects, size_t objects_length,
     uint32_t *statuses, size_t room, size_t *count);
@@ -219,11 +213,9 @@ uint32_t rpki_check_checklist(const rpki_question *question,
     rpki_file *files, size_t room, size_t *count,
     uint8_t *octets, size_t octets_room, size_t *length);
 
-/*
- * Whether a signature of a message is one by RSASSA-PKCS1-v1_5 with SHA-256 by
+/* Whether a signature of a message is one by RSASSA-PKCS1-v1_5 with SHA-256 by
  * this key, the bits of a subjectPublicKey, of 2048 to 4096 bits with exponent
- * 65537: RPKI_GOOD or RPKI_BAD_SIGNATURE, unless memory runs out.
- */
+ * 65537: RPKI_GOOD or RPKI_BAD_SIGNATURE, unless memory runs out. */
 uint32_t rpki_check_signature(const uint8_t *key, size_t key_length,
     const uint8_t *message, size_t message_length,
     const uint8_t *signature, size_t signature_length);

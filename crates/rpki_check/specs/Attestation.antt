@@ -71,8 +71,8 @@ pub record IsGrantedIn (q : Question) (octets : List ℕ) (result : Result KeptW
   pub found : IsGrantedOn grounds octets result
 
 -- what is found in answer to a question: that it has no grounds, or what is found on them
-abbrev pub IsAttested : Question → List ℕ → Result KeptWhole Refusal → Type 0
-IsAttested q octets result =
+abbrev pub IsAttestationFound : Question → List ℕ → Result KeptWhole Refusal → Type 0
+IsAttestationFound q octets result =
     ((refusal : Refusal) × HasNoGrounds q refusal × (result ≡ Err refusal))
     ⊎ IsGrantedIn q octets result
 
@@ -83,4 +83,4 @@ lines_of k = attestation_text k.content
 -- What a call leaves that asks about the attestation at the front of octets.
 abbrev pub IsAttestationCall : Question → List ℕ → List ℕ → List ℕ → ℕ → ℕ → Type 0
 IsAttestationCall q octets old new len status = (found : Result KeptWhole Refusal)
-    × IsAttested q octets found × IsReported lines_of found old new len status
+    × IsAttestationFound q octets found × IsReported lines_of found old new len status

@@ -1,7 +1,7 @@
 //! Multi-signed attestations, where the issuer that certificates make is the CA that is supplied.
 
 ghost use Rattle.std.specs.Prelude.{◌≡◌, ◌↔◌, IfOk, IsTrue, string_bytes};
-ghost use Rattle.rpki_check.specs.Attestation.{GrantsOn, IsAttestationCall, IsAttested};
+ghost use Rattle.rpki_check.specs.Attestation.{GrantsOn, IsAttestationCall, IsAttestationFound};
 ghost use Rattle.rpki_check.specs.Attestation.{IsGrantedOn, IsOfIssuer, IsRevokedOf, IsUnrevokedOn};
 ghost use Rattle.rpki_check.specs.Attestation.{NoneIsRevoked, lines_of};
 ghost use Rattle.rpki_check.specs.Report.{IsReported, text_of};
@@ -97,7 +97,7 @@ fn granted_on(alloc: Global, octets: &[u8], grounds: &Grounds) -> Result<Rta, Re
 
 /// What is found of octets in answer to a question.
 fn granted_in(alloc: Global, question: &Question<'_>, octets: &[u8]) -> Result<Rta, Refusal>
-    ensures { IsAttested question.now octets.now result }
+    ensures { IsAttestationFound question.now octets.now result }
 {
     match grounds_of(alloc, question) {
         Err(refusal) => Err(refusal),
