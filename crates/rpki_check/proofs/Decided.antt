@@ -1,5 +1,5 @@
 -- What statuses mean.
-use Rattle.std.proofs.Common.{◌≡◌, ◌∙◌, ◌⊎◌, inl, inr, ℕ, ◌+◌, List, Result, Ok, Err, refl, sym, ap}
+use Rattle.std.proofs.Common.{◌≡◌, ◌∙◌, inl, inr, ℕ, List, Result, Ok, Err, refl, sym, ap}
 use Rattle.std.proofs.Common.{arith, subst}
 use Rattle.sha2.specs.Sha256.{sha256}
 use Rattle.rpki_der.specs.declared.error.DecodeError.{DecodeError}
@@ -17,13 +17,13 @@ use Rattle.rpki_certs.specs.declared.issuer.IssuerError.{IssuerError}
 use Rattle.rpki_certs.specs.declared.issuer.IssuerError.TheVariants as issuing
 use Rattle.rpki_rsa.specs.Signature.{is_rsa_signature}
 use Rattle.rpki_signed.proofs.Exactness.{headline}
-use Rattle.rpki_signed.specs.Headline.{BeginsWithGood, IsMemory, SaysOne}
+use Rattle.rpki_signed.specs.Headline.{IsMemory, SaysOne}
 use Rattle.rpki_signed.specs.declared.check.CheckError.{CheckError}
 use Rattle.rpki_signed.specs.declared.check.CheckError.TheVariants as checking
 use Rattle.rpki_sigobj.specs.Object.{mode_of}
 use Rattle.rpki_sigobj.specs.Signed.Kind.{ObjectKind}
 use Rattle.rpki_sigobj.specs.Signed.{cert_in}
-use Rattle.rpki_check.specs.Grounds.{HasNoGrounds, manner_in}
+use Rattle.rpki_check.specs.Grounds.{manner_in}
 use Rattle.rpki_check.specs.Numbers.{check_number, inspection_number, issuer_number, refusal_number}
 use Rattle.rpki_check.specs.Numbers.{status_of, verification_number}
 use Rattle.rpki_check.specs.Object.{IsDecided, IsFound, IsFoundIn, IsGoodFor, IsNotGoodFor, SaysOf}

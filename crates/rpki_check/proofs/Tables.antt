@@ -1,6 +1,6 @@
 -- Tables of files, one file after the other.
 use Rattle.std.proofs.Common.{◌≡◌, ◌∙◌, ℕ, ◌+◌, List, [], ◌∷◌, ◌++◌, length, sym, subst, ap, refl}
-use Rattle.std.proofs.Common.{append_assoc, length-append, arith}
+use Rattle.std.proofs.Common.{append_assoc, length-append}
 use Rattle.std.proofs.lemmas.List.{append-nil}
 use Rattle.std.specs.List.{flat_map}
 use Rattle.rpki_check.specs.Files.{IsPushed, IsTable, Named, entries_at, entry_at, file_octets}

@@ -7,9 +7,7 @@ use Rattle.std.specs.declared.alloc.Global.{Global}
 use Rattle.rpki_der.specs.declared.mode.Mode.TheVariants.{Der}
 use Rattle.rpki_der.specs.Grammar.{HasNoFront}
 use Rattle.rpki_basics.specs.Moment.{Moment, IsMoment}
-use Rattle.rpki_basics.specs.declared.limits.ManifestRule.{ManifestRule}
 use Rattle.rpki_basics.specs.declared.limits.ManifestRule.TheVariants as naming
-use Rattle.rpki_basics.specs.declared.limits.ProviderLimit.{ProviderLimit}
 use Rattle.rpki_basics.specs.declared.limits.ProviderLimit.TheVariants.{Narrow, Wide}
 use Rattle.rpki_faults.specs.declared.validation.ValidationError.TheVariants.{Verification}
 use Rattle.rpki_faults.specs.declared.verification.VerificationError.TheVariants as faults

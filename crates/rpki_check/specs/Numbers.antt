@@ -5,7 +5,6 @@ use Rattle.rpki_resources.specs.declared.family.AddressFamily.TheVariants.{Ipv4,
 use Rattle.rpki_faults.specs.declared.family.Family.TheVariants.{As, V4, V6}
 use Rattle.rpki_faults.specs.declared.inspection.InspectionError.{InspectionError}
 use Rattle.rpki_faults.specs.declared.inspection.InspectionError.TheVariants as profile
-use Rattle.rpki_faults.specs.declared.validation.ValidationError.{ValidationError}
 use Rattle.rpki_faults.specs.declared.validation.ValidationError.TheVariants as validation
 use Rattle.rpki_faults.specs.declared.verification.VerificationError.{VerificationError}
 use Rattle.rpki_faults.specs.declared.verification.VerificationError.TheVariants as faults

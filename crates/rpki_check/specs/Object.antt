@@ -19,7 +19,6 @@ use Rattle.rpki_check.specs.Grounds.{AreGroundsOf, HasNoGrounds, manner_in}
 use Rattle.rpki_check.specs.Numbers.{refusal_number, status_of}
 use Rattle.rpki_check.specs.Revoked.{IsUnrevoked}
 use Rattle.rpki_check.specs.declared.grounds.Grounds.{Grounds}
-use Rattle.rpki_check.specs.declared.question.Manner.{Manner}
 use Rattle.rpki_check.specs.declared.question.Question.{Question}
 use Rattle.rpki_check.specs.declared.refusal.Refusal.{Refusal}
 use Rattle.rpki_check.specs.declared.refusal.Refusal.TheVariants.{Check, Memory}

@@ -4,13 +4,17 @@ mod octets;
 
 use crate::exports::{
     rpki_check_aspa, rpki_check_attestation, rpki_check_checklist, rpki_check_manifest,
-    rpki_check_object, rpki_check_objects, rpki_check_roa, rpki_check_show, rpki_check_version,
+    rpki_check_object, rpki_check_objects, rpki_check_roa, rpki_check_show, rpki_check_signature,
+    rpki_check_version,
 };
 use crate::files::Entry;
 use crate::many::Object;
 use crate::question::{Date, Octets, Question};
 use crate::rows::Payload;
-use octets::{ANCHOR, AUTHORITY, HOLDING, LETTER, MANIFEST, ORIGIN, PROVIDERS, REVOKING};
+use octets::{
+    ANCHOR, AUTHORITY, HOLDING, KEY, LETTER, MANIFEST, ORIGIN, PROVIDERS, REVOKING, SIGNATURE,
+    SIGNED,
+};
 use std::alloc::Global;
 
 static CHAIN: [Octets<'static>; 1] = [Octets { octets: AUTHORITY }];
@@ -48,6 +52,14 @@ fn status_of(alloc: Global, question: &Question<'_>, kind: u32, object: &[u8]) -
 #[test]
 fn the_version_is_one(rt: HostRuntime) {
     assert_eq!(rt; rpki_check_version(), 65536);
+}
+
+#[test]
+fn signatures_are_verified(rt: HostRuntime) {
+    let alloc = rt.alloc();
+    assert_eq!(rt; rpki_check_signature(alloc, KEY, SIGNED, SIGNATURE), 0);
+    assert_eq!(rt; rpki_check_signature(alloc, KEY, SIGNATURE, SIGNATURE), 303);
+    assert_eq!(rt; rpki_check_signature(alloc, SIGNED, SIGNED, SIGNATURE), 303);
 }
 
 #[test]

@@ -1,4 +1,3 @@
-use Rattle.std.proofs.Common.{ℕ, Result, sym, subst}
 use Rattle.rpki_sigobj.specs.Object.{mode_of}
 use Rattle.rpki_check.proofs.Naming.{asked}
 use Rattle.rpki_check.proofs.kinds.kind_asked.Goals as goal
