@@ -1,7 +1,4 @@
-/*
- * rpki_check.h - checks of signed objects of the RPKI, by proved code
- *
- * Link with -lrpki_check and the C library; nothing else is needed.
+/* rpki_check.h - checks of signed objects of the RPKI, by proved code; link with -lrpki_check
  *
  * A call reads what it is lent, writes into what it is lent, and keeps nothing:
  * there is no state, nothing to set up and nothing to free. Calls may run in
@@ -13,8 +10,7 @@
  * What C has to see to: each pointer leads to as many items as its length says,
  * or is NULL if the length is 0; what a call writes overlaps nothing else that it
  * is given; nobody changes what it reads while it runs; and there are 128 KiB of
- * stack. Octets may be any octets, and numbers any numbers.
- */
+ * stack. Octets may be any octets, and numbers any numbers. */
 #ifndef RPKI_CHECK_H
 #define RPKI_CHECK_H
 
@@ -36,8 +32,7 @@ enum rpki_status {
 	RPKI_GOOD = 0,          /* the octets begin with a good object */
 	RPKI_NO_MEMORY = 1,     /* memory ran out: nothing is said of the octets */
 	RPKI_NO_MOMENT = 2,     /* "no such moment": the date is none */
-	RPKI_NO_KIND = 3,       /* there is no kind with this number, or for RPKI_NAMED the
-	                         * octets begin with no object of a kind below */
+	RPKI_NO_KIND = 3,       /* no kind has this number, or the object names none (RPKI_NAMED) */
 	RPKI_NO_LIST = 4,       /* "no revocation list": one of the lists is none */
 	RPKI_MALFORMED = 100,   /* "malformed", or a rule of the format that is broken:
 	                         * the octets begin with no object of the kind */
@@ -87,8 +82,22 @@ enum rpki_status {
 	RPKI_NO_V6_COVERED = 319,        /* no IPv6 ROA prefix covered by certificate */
 	RPKI_UNCOVERED_PREFIX = 320,     /* ROA prefix 192.0.2.0/24 not covered by certificate */
 	RPKI_CHECKLIST_NOT_HELD = 321,   /* checklist resources not held */
-	RPKI_ISSUER_REVOKED = 332,       /* CA certificate has been revoked; with RPKI_OF_ISSUER */
-	RPKI_REVOKED = 337,              /* refused by the caller: a list revokes its certificate */
+	RPKI_MANIFEST_HASH = 322,        /* manifest hash mismatch */
+	RPKI_UNKNOWN_KEY = 323,          /* public key not found in chain */
+	RPKI_SIGNER_DIGEST = 324,        /* message digest mismatch */
+	RPKI_MISSING_CERTIFICATE = 325,  /* missing certificate */
+	RPKI_MISSING_CRL = 326,          /* missing CRL */
+	RPKI_UNUSED_SUBJECT_KEYS = 327,  /* unused subject keys */
+	RPKI_UNUSED_CRLS = 328,          /* unused CRLs */
+	RPKI_UNUSED_EE_CERTIFICATES = 329, /* unused EE certificates */
+	RPKI_INVALID_CA_CERTIFICATES = 330, /* only invalid CA certificates found */
+	RPKI_PATH_RETURNS = 331,         /* path returns */
+	RPKI_CA_REVOKED = 332,           /* CA certificate has been revoked */
+	RPKI_UNUSED_CA_CERTIFICATES = 333, /* unused CA certificates */
+	RPKI_NOT_ANCHORED = 334,         /* RTA could not be validated */
+	RPKI_AS_NOT_FULLY_COVERED = 335, /* AS resources not fully covered */
+	RPKI_IP_NOT_FULLY_COVERED = 336, /* IP resources not fully covered */
+	RPKI_REVOKED = 337,              /* refused by the caller (a list revokes its certificate) */
 
 	/* The certificates of the question make no issuer: 1000 more than the numbers
 	 * above, as 1100 where one is malformed or 1306 where one has expired. */
@@ -104,16 +113,10 @@ enum rpki_kind {
 };
 
 /* Octets, lent. */
-typedef struct rpki_octets {
-	const uint8_t *at;
-	size_t length;
-} rpki_octets;
+typedef struct rpki_octets { const uint8_t *at; size_t length; } rpki_octets;
 
-/* A moment in UTC. There is no second 60. */
-typedef struct rpki_moment {
-	uint16_t year;        /* 0 to 9999 */
-	uint8_t month, day, hour, minute, second;
-} rpki_moment;
+/* A moment in UTC. The year is 0 to 9999, and there is no second 60. */
+typedef struct rpki_moment { uint16_t year; uint8_t month, day, hour, minute, second; } rpki_moment;
 
 /* Under which certificates and lists, when and how is checked. Begin with zeros. */
 typedef struct rpki_question {
@@ -157,10 +160,7 @@ uint32_t rpki_check_show(const rpki_question *question, uint32_t kind,
     char *text, size_t room, size_t *length);
 
 /* Octets that are to begin with an object of a kind. */
-typedef struct rpki_object {
-	uint32_t kind;
-	rpki_octets octets;
-} rpki_object;
+typedef struct rpki_object { uint32_t kind; rpki_octets octets; } rpki_object;
 
 /* Checks many objects on one question, whose certificates and lists are read once.
  * The answer is RPKI_GOOD with *count = objects_length and a status of each object,
@@ -194,12 +194,8 @@ uint32_t rpki_check_aspa(const rpki_question *question,
     uint32_t *numbers, size_t room, size_t *count);
 
 /* A file of a manifest or a checklist: where its name and its hash stand among the
- * octets that are written with it. */
-typedef struct rpki_file {
-	size_t name, name_length;
-	size_t hash, hash_length;
-	size_t named;         /* 1; 0 if a checklist gives no name */
-} rpki_file;
+ * octets that are written with it; named is 0 if a checklist gives no name, and else 1. */
+typedef struct rpki_file { size_t name, name_length, hash, hash_length, named; } rpki_file;
 
 /* Check a manifest and a checklist in the same way, with two rooms: for *count files,
  * in their order, and for the *length octets in which names and hashes stand. Each is
