@@ -1,0 +1,47 @@
+-- What is found on grounds.
+use Rattle.std.proofs.Common.{◌≡◌, ◌⊎◌, inl, inr, ℕ, List, Result, Ok, Err}
+use Rattle.sha2.specs.Sha256.{sha256}
+use Rattle.rpki_der.specs.declared.mode.Mode.{Mode}
+use Rattle.rpki_faults.specs.declared.validation.ValidationError.{ValidationError}
+use Rattle.rpki_faults.specs.declared.validation.ValidationError.TheVariants.{Memory}
+use Rattle.rpki_certs.specs.Cert.{KeptCertificate}
+use Rattle.rpki_certs.specs.Validate.{Validated}
+use Rattle.rpki_rsa.specs.Signature.{is_rsa_signature}
+use Rattle.rpki_signed.specs.Exact.{IsExact}
+use Rattle.rpki_signed.specs.declared.check.CheckError.{CheckError}
+use Rattle.rpki_signed.specs.declared.check.CheckError.TheVariants.{Decode, Validation}
+use Rattle.rpki_sigobj.specs.Signed.Good.{IsNotGood}
+use Rattle.rpki_sigobj.specs.Signed.Kind.{ObjectKind}
+use Rattle.rpki_sigobj.specs.Signed.{cert_in}
+use Rattle.rpki_check.specs.Object.{ChecksOn, SaysAs, SaysOf}
+use Rattle.rpki_check.specs.declared.grounds.Grounds.{Grounds}
+
+module _ {X : Type 0} (kind : ObjectKind X) (form : List ℕ → X → Type 0) (mode : Mode) (g : Grounds)
+    (octets : List ℕ) where
+  -- what is answered by what is said is answered by the lists
+  pub by-lists : (Says : KeptCertificate → Result (Unit {0}) ValidationError → Type 0)
+      → SaysAs Says g → (r : Result (Validated × X) CheckError)
+      → IsExact kind form mode sha256 is_rsa_signature g.issuer g.moment Says octets r
+      → ChecksOn kind form mode g octets r
+  by-lists Says means (Ok a) h = record {
+    object = h.object;
+    rest = h.rest;
+    front = h.front;
+    holds = (means (cert_in mode h.object) (Ok tt) h.holds.0, h.holds.1, h.holds.2);
+  }
+  by-lists Says means (Err (Decode e)) h = h
+  by-lists Says means (Err (Validation fault)) h = record {
+    object = h.object;
+    rest = h.rest;
+    front = h.front;
+    holds = of h.holds;
+  }
+    where
+      of : (fault ≡ Memory)
+          ⊎ IsNotGood kind mode sha256 is_rsa_signature g.issuer g.moment
+          (Says (cert_in mode h.object)) h.object fault
+          → (fault ≡ Memory)
+          ⊎ IsNotGood kind mode sha256 is_rsa_signature g.issuer g.moment
+          (SaysOf g (cert_in mode h.object)) h.object fault
+      of (inl e) = inl e
+      of (inr n) = inr (λ v good. means (cert_in mode h.object) (Err fault) (n v good))

@@ -1,0 +1,11 @@
+pub mod Attestation
+pub mod Files
+pub mod Grounds
+pub mod Kinds
+pub mod Many
+pub mod Numbers
+pub mod Object
+pub mod Report
+pub mod Revoked
+pub mod Room
+pub mod Rows

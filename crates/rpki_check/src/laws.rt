@@ -1,0 +1,24 @@
+//! What statuses mean: a law, as a function that does nothing.
+
+ghost use Rattle.rpki_basics.specs.declared.limits.ManifestRule.{ManifestRule};
+ghost use Rattle.rpki_basics.specs.declared.limits.ProviderLimit.{ProviderLimit};
+ghost use Rattle.rpki_der.specs.declared.mode.Mode.TheVariants.{Der};
+ghost use Rattle.rpki_files.specs.Checklist.{ChecklistForm};
+ghost use Rattle.rpki_files.specs.Checklist.Checks.{checklist_kind};
+ghost use Rattle.rpki_files.specs.Manifest.{ManifestForm};
+ghost use Rattle.rpki_files.specs.Manifest.Checks.{manifest_kind};
+ghost use Rattle.rpki_routes.specs.Aspa.Checks.{aspa_kind};
+ghost use Rattle.rpki_routes.specs.Aspa.Form.{AspaForm};
+ghost use Rattle.rpki_routes.specs.Roa.Checks.{roa_kind};
+ghost use Rattle.rpki_routes.specs.Roa.Form.{RoaForm};
+ghost use Rattle.rpki_check.specs.Object.{IsDecided};
+
+/// The status of what is found, as each call answers it, is 0 exactly where the octets begin with a
+/// good object under the issuer that the certificates make, and no list revokes it, unless memory
+/// runs out.
+pub fn statuses_decide()
+    ensures roas { IsDecided roa_kind RoaForm }
+    ensures aspas { (limit : ProviderLimit) → IsDecided aspa_kind (AspaForm limit) }
+    ensures manifests { (rule : ManifestRule) → IsDecided manifest_kind (ManifestForm rule Der) }
+    ensures checklists { IsDecided checklist_kind (ChecklistForm Der) }
+{}
