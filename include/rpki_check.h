@@ -7,8 +7,9 @@
  * no file, no clock and no environment, prints nothing, and never aborts. Call
  * none from a signal handler.
  *
- * What C has to see to: each pointer leads to as many items as its length says,
- * or is NULL if the length is 0; what a call writes overlaps nothing else that it
+ * What C has to see to: each pointer leads to as many items as its length or room
+ * says (octets of a text, rows of others), or is NULL if that is 0; question, length
+ * and count are not NULL; what a call writes overlaps nothing else that it
  * is given; nobody changes what it reads while it runs; and there are 128 KiB of
  * stack. Octets may be any octets, and numbers any numbers. */
 #ifndef RPKI_CHECK_H
@@ -120,7 +121,7 @@ typedef struct rpki_moment { uint16_t year; uint8_t month, day, hour, minute, se
 
 /* Under which certificates and lists, when and how is checked. Begin with zeros. */
 typedef struct rpki_question {
-	rpki_octets anchor;         /* the certificate of a trust anchor, in DER */
+	rpki_octets anchor;         /* a trust anchor's certificate; all of these in DER */
 	const rpki_octets *chain;   /* those of CAs, each under the one before: */
 	size_t chain_length;        /* the last one issued the object */
 	const rpki_octets *lists;   /* revocation lists, in any order; one counts for an */
@@ -128,7 +129,7 @@ typedef struct rpki_question {
 	rpki_moment moment;
 	uint8_t relaxed;            /* not 0: objects may be in BER */
 	uint8_t registered;         /* not 0: RFC 9286's rules for file names */
-	uint8_t wide;               /* not 0: up to 65,535 providers */
+	uint8_t wide;               /* not 0: up to 16,380 providers, not 10,000 */
 } rpki_question;
 
 /* Checks an object of a kind. The answer is RPKI_GOOD exactly if the certificates
@@ -165,7 +166,8 @@ typedef struct rpki_object { uint32_t kind; rpki_octets octets; } rpki_object;
 /* Checks many objects on one question, whose certificates and lists are read once.
  * The answer is RPKI_GOOD with *count = objects_length and a status of each object,
  * as rpki_check_object answers it, or the number of what is wrong with the question
- * with *count = 0. The statuses are written if all fit into the room, and else none. */
+ * with *count = 0. The statuses are written if all fit into the room, and else none:
+ * read them only if the answer is RPKI_GOOD and *count <= room. */
 uint32_t rpki_check_objects(const rpki_question *question,
     const rpki_object *objects, size_t objects_length,
     uint32_t *statuses, size_t room, size_t *count);

@@ -41,7 +41,7 @@ pub struct Question<'a> {
     pub relaxed: u8,
     /// Whether the names of a manifest have registered types, and none comes twice, if not 0.
     pub registered: u8,
-    /// Whether a customer may have more than 16,380 providers, if not 0.
+    /// Whether a customer may have 16,380 providers, and not 10,000 at most, if not 0.
     pub wide: u8,
 }
 
