@@ -35,12 +35,12 @@ int main(int argc, char **argv)
 	unsigned date[6];
 	char *text, address[INET6_ADDRSTRLEN];
 	rpki_payload *rows;
-	size_t length = 0, count = 0;
+	size_t length = 0, room, count = 0;
 	uint32_t status;
 
 	if (argc < 5 || argc > 20 || sscanf(argv[3], "%4u%2u%2u%2u%2u%2uZ", &date[0], &date[1],
 	    &date[2], &date[3], &date[4], &date[5]) != 6)
-		return 2;
+		return fputs("check KIND FILE MOMENT TA [CA ..]\n", stderr), 2;
 	object = octets_of(argv[2]);
 	question.anchor = octets_of(argv[4]);
 	for (int i = 5; i < argc; i++)
@@ -51,10 +51,11 @@ int main(int argc, char **argv)
 
 	/* how long the text is, and then the text */
 	rpki_check_object(&question, (uint32_t)atoi(argv[1]), object.at, object.length, NULL, 0, &length);
-	if ((text = malloc(length + 1)) == NULL)
+	if ((text = malloc((room = length) + 1)) == NULL)
 		return 3;
 	status = rpki_check_object(&question, (uint32_t)atoi(argv[1]), object.at, object.length,
-	    text, length, &length);
+	    text, room, &length);
+	length = length > room ? 0 : length;    /* memory may run out in between */
 	printf("%u\n%.*s\n", status, (int)length, text);
 
 	/* how many rows there are, and then the rows */

@@ -42,15 +42,16 @@ func main() {
 	part := func(at int) C.uint8_t { return C.uint8_t(number(moment[at : at+2])) }
 	question := C.rpki_question{anchor: octetsOf(words[3]), chain: &chain[0], chain_length: C.size_t(len(words) - 4)}
 	question.moment = C.rpki_moment{year: C.uint16_t(number(moment[:4])), month: part(4), day: part(6), hour: part(8), minute: part(10), second: part(12)}
-
 	// how long the text is, and then the text
 	var length, count C.size_t
 	C.rpki_check_object(&question, kind, object.at, object.length, nil, 0, &length)
-	text := make([]byte, length+1)
+	room, text := length, make([]byte, length+1)
 	status := C.rpki_check_object(&question, kind, object.at, object.length,
-		(*C.char)(unsafe.Pointer(&text[0])), length, &length)
+		(*C.char)(unsafe.Pointer(&text[0])), room, &length)
+	if length > room { // memory ran out in between: nothing was written
+		length = 0
+	}
 	fmt.Printf("%d\n%s\n", status, text[:length])
-
 	// how many rows there are, and then the rows
 	C.rpki_check_roa(&question, object.at, object.length, nil, 0, &count)
 	rows := make([]C.rpki_payload, count+1)
