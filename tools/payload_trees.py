@@ -750,15 +750,34 @@ def prefix_of(at):
     return f"2001:db8:1:{fourth:x}:{fifth:x}::" if fifth else f"2001:db8:1:{fourth:x}::" if fourth else "2001:db8:1::"
 
 
-def of_prefixes(t, count=PREFIXES):
-    """The ROA of `a` has very many prefixes."""
+def add_prefixes(ca, count):
+    """Adds a ROA with very many prefixes. Returns what it says."""
     head, first = make.sequence(make.bits(bytes(10)))[:-10], bytes.fromhex("20010db80001")
     addresses = make.sequence(b"".join(head + first + at.to_bytes(4, "big") for at in range(count)))
     family = make.sequence(make.octet_string(b"\0\2"), addresses)
     content = make.sequence(make.integer(65001), make.sequence(family))
     claim = make.Claim(["2001:db8:1::/48"], [])
-    t.a.add("o.roa", t.a.object("o.roa", make.ROA, content, claim))
-    t.says(PROVIDERS + [origin(65001, f"{prefix_of(at)}/80") for at in range(count)] + C + B)
+    ca.add("o.roa", ca.object("o.roa", make.ROA, content, claim))
+    return [origin(65001, f"{prefix_of(at)}/80") for at in range(count)]
+
+
+def of_prefixes(t, count=PREFIXES):
+    """The ROA of `a` has very many prefixes."""
+    t.says(PROVIDERS + add_prefixes(t.a, count) + C + B)
+
+
+def beside_prefixes(t, count):
+    """A second locator, which goes first. Below its trust anchor, which is returned, a CA has a ROA
+    with very many prefixes."""
+    top = Ca("two", EVERYTHING)
+    ca = Ca("x", make.Claim(["2001:db8:1::/48"], []), top)
+    t.found = {"two": add_prefixes(ca, count), **t.found}
+    top.add_ca(ca)
+    t.cas += top, ca
+    t.put(top.uri, top.certificate())
+    t.tals["two.tal"] = locator([top.uri], top.signer)
+    t.words = ["tals/two.tal", "tals/one.tal"]
+    return top
 
 
 def of_files(t):

@@ -1,33 +1,16 @@
 -- What runs under locators come to, and what is reported of them.
 use Rattle.std.proofs.Common.{◌≡◌, ◌<◌, ◌+◌, ℕ, List, [], ◌∷◌, ◌++◌, sym, subst}
-use Rattle.std.proofs.Common.{Ok, Err, get_or, length, take, inl, inr}
+use Rattle.std.proofs.Common.{get_or, length, take, inl, inr}
 use Rattle.std.proofs.lemmas.List.{take_more}
 use Rattle.std.proofs.lemmas.Slice.Zip.{all_zipped_more}
 use Rattle.std.specs.List.{AllZip, zip}
-use Rattle.std.specs.Prelude.{◌≢◌, IfOk, OnOk, Result}
-use Rattle.std.specs.declared.alloc.AllocError.{AllocError}
 use Rattle.rpki_cli.specs.Answer.{Output}
 use Rattle.rpki_cli.specs.declared.verify.relying_party.PayloadsRequest.{PayloadsRequest}
-use Rattle.rpki_tal.specs.Tal.{Locator}
-use Rattle.rpki_relying_party.specs.Runs.{WhyNoRun}
-use Rattle.rpki_relying_party.specs.Setting.{Setting}
-use Rattle.rpki_relying_party.specs.declared.locator.RunFault.{RunFault}
-use Rattle.rpki_relying_party.specs.declared.locator.RunFault.TheVariants.{Memory}
 use Rattle.rpki_payloads.specs.Locators.{File, IsNamedLocator}
-use Rattle.rpki_payloads.specs.Outcomes.{AnchorOutcome, Outcome, IsOutcome, IsOutcomeOf}
-use Rattle.rpki_payloads.specs.Outcomes.{IsOutcomeUnder}
+use Rattle.rpki_payloads.specs.Outcomes.{AnchorOutcome, IsOutcomeOf, IsOutcomeUnder}
 use Rattle.rpki_payloads.specs.Party.{Party}
 use Rattle.rpki_payloads.specs.Report.{IsReport, IsReportUnder}
 use Rattle.rpki_payloads.specs.declared.locators.NamedLocator.{NamedLocator}
-
--- why there is no run
-pub no-run : (s : Setting) (tal : Locator) (limit : ℕ) (fault : RunFault)
-    (result : Result Outcome AllocError) → IfOk result (λ outcome. outcome ≡ Err fault)
-    → OnOk result (fault ≢ Memory) → WhyNoRun s tal limit fault
-    → IfOk result (IsOutcome s tal limit)
-no-run s tal limit fault (Ok outcome) is memory why =
-    subst (λ (o : Outcome). IsOutcome s tal limit o) (sym is) (memory, why)
-no-run s tal limit fault (Err error) is memory why = tt
 
 -- one run more
 pub run-more : {A B : Type 0} (R : A → B → Type 0) (xs : List A) (place : ℕ) (d : A)

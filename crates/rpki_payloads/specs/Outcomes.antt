@@ -1,5 +1,5 @@
 -- What a validation run under a locator comes to.
-use Rattle.std.specs.Prelude.{◌≡◌, ◌≢◌, ℕ, List, Result, Ok, Err}
+use Rattle.std.specs.Prelude.{◌≡◌, ℕ, List, Result, Ok, Err}
 use Rattle.rpki_cli.specs.declared.verify.relying_party.PayloadsRequest.{PayloadsRequest}
 use Rattle.rpki_tal.specs.Tal.{Locator}
 use Rattle.rpki_relying_party.specs.Found.{Lists}
@@ -11,7 +11,6 @@ use Rattle.rpki_relying_party.specs.Walk.{Left}
 use Rattle.rpki_relying_party.specs.declared.found.Finding.{Finding}
 use Rattle.rpki_relying_party.specs.declared.found.Found.{Found}
 use Rattle.rpki_relying_party.specs.declared.locator.RunFault.{RunFault}
-use Rattle.rpki_relying_party.specs.declared.locator.RunFault.TheVariants.{Memory}
 use Rattle.rpki_relying_party.specs.declared.place.Place.{Place}
 use Rattle.rpki_payloads.specs.Locators.{File, IsLocator}
 use Rattle.rpki_payloads.specs.Party.{Party, setting_of}
@@ -38,12 +37,12 @@ pub record IsFoundIn (s : Setting) (tal : Locator) (limit : ℕ) (found : Found)
   pub complete : TellsSteadily s → FindsAllUnder s tal run unread
   pub refused : KeepsAll (IsLeftRefusal unread) run found
 
--- what a run under a locator comes to, other than want of memory
+-- what a run under a locator comes to; of want of memory no more is said
 abbrev pub IsOutcome : Setting → Locator → ℕ → Outcome → Type 0
 IsOutcome s tal limit (Ok found) = IsFoundIn s tal limit found
-IsOutcome s tal limit (Err fault) = (fault ≢ Memory) × WhyNoRun s tal limit fault
+IsOutcome s tal limit (Err fault) = WhyNoRun s tal limit fault
 
--- what a run under the locator with this name comes to, other than want of memory
+-- what a run under the locator with this name comes to
 abbrev pub IsNamedOutcome : Setting → List ℕ → Locator → ℕ → AnchorOutcome → Type 0
 IsNamedOutcome s name tal limit a = (a.name ≡ name) × IsOutcome s tal limit a.outcome
 

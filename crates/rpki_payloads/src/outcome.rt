@@ -1,8 +1,7 @@
 //! What a validation run under a locator comes to.
 
-ghost use Rattle.std.specs.Prelude.{◌≡◌, ◌≢◌, is_ok, Err, IfOk, OnOk};
+ghost use Rattle.std.specs.Prelude.{◌≡◌, is_ok};
 ghost use Rattle.rpki_relying_party.specs.Passes.{setting};
-ghost use Rattle.rpki_relying_party.specs.declared.locator.RunFault.TheVariants.{Memory};
 ghost use Rattle.rpki_show.specs.Grows.{Grows};
 ghost use Rattle.rpki_payloads.specs.Outcomes.{IsNamedOutcome, IsOutcome};
 ghost use Rattle.rpki_payloads.specs.Report.{found_under, outcome_line};
@@ -35,63 +34,51 @@ impl<'a> Model for AnchorOutcome<'a> {
     ghost view = { λ a. record { name = a.name.now; outcome = a.outcome } };
 }
 
-// Where there is no run, why; want of memory is that of the whole.
-fn no_run(fault: RunFault) -> Result<Result<Found, RunFault>, AllocError>
-    ensures outcome { IfOk result (λ outcome. outcome ≡ Err fault) }
-    ensures memory { OnOk result (fault ≢ Memory) }
-{
-    match fault {
-        RunFault::Memory => Err(AllocError),
-        other => Ok(Err(other)),
-    }
-}
-
 // What is found under a locator, with a refusal for each CA whose places were left unread; or why
-// there is no run.
+// there is no run. Where memory runs out, what was found is dropped.
 fn outcome_under<R: Repository, C: Crypto>(
     alloc: Global,
     pass: &Pass<'_, R, C>,
     tal: &Tal,
     limit: u64,
-) -> Result<Result<Found, RunFault>, AllocError>
-    ensures { IfOk result
-        (IsOutcome (setting R.finds C.digest_of C.is_signed pass.now) tal.now limit) }
+) -> Result<Found, RunFault>
+    ensures { IsOutcome (setting R.finds C.digest_of C.is_signed pass.now) tal.now limit result }
 {
     let mut found = Found::new(alloc);
     match run_under(alloc, pass, tal, limit, &mut found) {
         Err(fault) => {
             drop(found);
-            no_run(fault)
+            Err(fault)
         }
         Ok(unread) => match refuse_unread(alloc, &unread, &mut found) {
-            Err(error) => {
+            Err(_) => {
                 drop(unread);
                 drop(found);
-                Err(error)
+                Err(RunFault::Memory)
             }
             Ok(()) => {
                 drop(unread);
-                Ok(Ok(found))
+                Ok(found)
             }
         },
     }
 }
 
 impl<'a> AnchorOutcome<'a> {
-    /// What the run under this locator comes to, unless memory runs out.
+    /// What the run under this locator comes to. That memory ran out is an outcome too.
     pub(crate) fn of_run<R: Repository, C: Crypto>(
         alloc: Global,
         pass: &Pass<'_, R, C>,
         name: &'a str,
         tal: &Tal,
         limit: u64,
-    ) -> Result<AnchorOutcome<'a>, AllocError>
-        ensures { IfOk result (IsNamedOutcome
-            (setting R.finds C.digest_of C.is_signed pass.now) name.now tal.now limit) }
+    ) -> AnchorOutcome<'a>
+        ensures { IsNamedOutcome (setting R.finds C.digest_of C.is_signed pass.now) name.now
+            tal.now limit result }
     {
-        match outcome_under(alloc, pass, tal, limit) {
-            Err(error) => Err(error),
-            Ok(outcome) => Ok(AnchorOutcome { name, outcome }),
+        AnchorOutcome {
+            name,
+            outcome: outcome_under(alloc, pass, tal, limit),
         }
     }
 

@@ -101,7 +101,7 @@ fn run_all<'p, F: Folders, C: Crypto>(
 {
     let mut outcomes = Vec::new(alloc);
     for one in locators {
-        outcomes.push(run_named(alloc, party, request, one)?)?;
+        outcomes.push(run_named(alloc, party, request, one))?;
     }
     Ok(outcomes)
 }
@@ -112,9 +112,9 @@ fn run_named<'p, F: Folders, C: Crypto>(
     party: &FolderParty<'_, F, C>,
     request: &PayloadsRequest<'_>,
     named: &'p NamedLocator<'_>,
-) -> Result<AnchorOutcome<'p>, AllocError>
-    ensures { IfOk result (IsOutcomeUnder (party_of F.finds C.digest_of C.is_signed party.now)
-        request.now named.now.name.now named.now.locator) }
+) -> AnchorOutcome<'p>
+    ensures { IsOutcomeUnder (party_of F.finds C.digest_of C.is_signed party.now) request.now
+        named.now.name.now named.now.locator result }
 {
     let copy = FolderCopy {
         folders: party.folders,

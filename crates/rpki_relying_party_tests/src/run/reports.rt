@@ -11,6 +11,7 @@ use rpki_cli::verify::words::Format;
 use rpki_cli::verify::{PayloadsRequest, RelyingParty};
 use rpki_cli::words::{Word, Words};
 use rpki_payloads::FolderParty;
+use rpki_relying_party::{Fetched, Folders};
 use rpki_testing::Fail;
 use std::alloc::{AllocError, Global};
 
@@ -207,6 +208,93 @@ static ROWS: [(Asked, Wanted); 17] = [
     ),
 ];
 
+/// A file of the tree for which no memory is to be had, what is asked, and what is answered.
+static LACKING: [(&str, Asked, Wanted); 4] = [
+    // that of a trust anchor, before another one and after it
+    (
+        "ta/two/t.cer",
+        (
+            Format::Lines,
+            2027,
+            MOST,
+            &["two.tal", "one.tal"],
+            &[LOCATOR, LOCATOR],
+        ),
+        Wanted::Reported(
+            LINES,
+            "refused two: out of memory\n\
+             refused rsync://h/m/b/b.mft: manifest is not in the copy \
+             (under rsync://h/m/t/t.mft, one)\n\
+             refused rsync://h/m/t/x.roa: malformed (under rsync://h/m/t/t.mft, one)\n",
+            1,
+        ),
+    ),
+    (
+        "ta/two/t.cer",
+        (
+            Format::Csv,
+            2027,
+            MOST,
+            &["one.tal", "two.tal"],
+            &[LOCATOR, LOCATOR],
+        ),
+        Wanted::Reported(
+            CSV,
+            "refused two: out of memory\n\
+             refused rsync://h/m/b/b.mft: manifest is not in the copy \
+             (under rsync://h/m/t/t.mft, one)\n\
+             refused rsync://h/m/t/x.roa: malformed (under rsync://h/m/t/t.mft, one)\n",
+            1,
+        ),
+    ),
+    // one of the trust anchor's own point, and one of a point below it
+    (
+        "h/m/t/t.crl",
+        (Format::Lines, 2027, MOST, &["one.tal"], &[LOCATOR]),
+        Wanted::Reported("", "refused one: out of memory\n", 1),
+    ),
+    (
+        "h/m/a/a.mft",
+        (Format::Lines, 2027, MOST, &["one.tal"], &[LOCATOR]),
+        Wanted::Reported(
+            "origin AS65100 192.0.2.0/24\n",
+            "refused rsync://h/m/b/b.mft: manifest is not in the copy \
+             (under rsync://h/m/t/t.mft, one)\n\
+             refused rsync://h/m/t/t.mft: out of memory (under rsync://h/m/t/t.mft, one)\n\
+             refused rsync://h/m/t/x.roa: malformed (under rsync://h/m/t/t.mft, one)\n",
+            0,
+        ),
+    ),
+];
+
+/// Files in memory, and the name of one for which no memory is to be had.
+#[derive(Drop)]
+struct LackingFiles<'a> {
+    files: Files<'a>,
+    name: &'a str,
+}
+
+impl Folders for LackingFiles<'_> {
+    ghost use Rattle.std.specs.Prelude.{◌≡◌};
+    ghost use Rattle.rpki_relying_party_tests.specs.Files.{found_in};
+
+    ghost finds = { λ t _ name found. found ≡ found_in t.files.files.now name };
+
+    fn read(
+        &self,
+        alloc: Global,
+        folder: &str,
+        name: &[u8],
+        most: u64,
+    ) -> Result<Fetched, AllocError> {
+        if name == self.name.as_bytes() {
+            Err(AllocError)
+        } else {
+            self.files.read(alloc, folder, name, most)
+        }
+    }
+}
+
 // The octets of files.
 fn octets_of(alloc: Global, files: &[&[u8]]) -> Result<Vec<Bytes>, AllocError> {
     let mut octets = Vec::new(alloc);
@@ -216,12 +304,14 @@ fn octets_of(alloc: Global, files: &[&[u8]]) -> Result<Vec<Bytes>, AllocError> {
     Ok(octets)
 }
 
-// Whether this is said. That memory ran out, also for a point, is handed on.
+// Whether this is said. That memory ran out, also for a locator or a point, is handed on, unless it
+// is wanted.
 fn is_said(said: (&str, &str, u8), wanted: (&str, &str, u8)) -> Result<bool, AllocError> {
-    if said.1.contains("out of memory") {
+    let is_same = said == wanted;
+    if !is_same && said.1.contains("out of memory") {
         return Err(AllocError);
     }
-    Ok(said == wanted)
+    Ok(is_same)
 }
 
 // Whether this is answered.
@@ -239,8 +329,14 @@ fn is_wanted(answer: &Answer<'_>, wanted: &Wanted) -> Result<bool, AllocError> {
     }
 }
 
-// What is answered over the tree.
-fn answer(alloc: Global, asked: &Asked, files: &[Bytes], moment: Time) -> Answer<'static> {
+// What is answered over these folders.
+fn answer<F: Folders>(
+    alloc: Global,
+    folders: &F,
+    asked: &Asked,
+    files: &[Bytes],
+    moment: Time,
+) -> Answer<'static> {
     let names = asked.3;
     if files.len() != names.len() {
         return Answer::WrongWords;
@@ -252,27 +348,46 @@ fn answer(alloc: Global, asked: &Asked, files: &[Bytes], moment: Time) -> Answer
         providers: ProviderLimit::Narrow,
         locators: Words(names),
     };
-    let folders = Files { files: &FILES };
     let party = FolderParty {
-        folders: &folders,
+        folders,
         crypto: &StandIn,
         limit: asked.2,
     };
     party.answer(alloc, &request, files)
 }
 
-fn is_answered(alloc: Global, asked: &Asked, wanted: &Wanted) -> Result<bool, AllocError> {
+fn is_answered<F: Folders>(
+    alloc: Global,
+    folders: &F,
+    asked: &Asked,
+    wanted: &Wanted,
+) -> Result<bool, AllocError> {
     let files = octets_of(alloc, asked.4)?;
     match Time::utc(asked.1, 1, 1, 0, 0, 0) {
         None => Ok(false),
-        Some(moment) => is_wanted(&answer(alloc, asked, &files, moment), wanted),
+        Some(moment) => is_wanted(&answer(alloc, folders, asked, &files, moment), wanted),
     }
 }
 
 // How many rows are answered before the first that is not, or all.
 fn answered(alloc: Global, rows: &[(Asked, Wanted)]) -> Result<usize, AllocError> {
+    let folders = Files { files: &FILES };
     for (place, (asked, wanted)) in rows.iter().enumerate() {
-        if !is_answered(alloc, asked, wanted)? {
+        if !is_answered(alloc, &folders, asked, wanted)? {
+            return Ok(place);
+        }
+    }
+    Ok(rows.len())
+}
+
+// The same, with no memory for the file that each row names.
+fn answered_without(alloc: Global, rows: &[(&str, Asked, Wanted)]) -> Result<usize, AllocError> {
+    for (place, (name, asked, wanted)) in rows.iter().enumerate() {
+        let folders = LackingFiles {
+            files: Files { files: &FILES },
+            name: *name,
+        };
+        if !is_answered(alloc, &folders, asked, wanted)? {
             return Ok(place);
         }
     }
@@ -282,5 +397,11 @@ fn answered(alloc: Global, rows: &[(Asked, Wanted)]) -> Result<usize, AllocError
 #[test]
 fn locators_are_reported(rt: HostRuntime) -> Result<(), Fail> {
     assert_eq!(rt; answered(rt.alloc(), &ROWS)?, ROWS.len());
+    Ok(())
+}
+
+#[test]
+fn no_memory_is_the_locators_own(rt: HostRuntime) -> Result<(), Fail> {
+    assert_eq!(rt; answered_without(rt.alloc(), &LACKING)?, LACKING.len());
     Ok(())
 }

@@ -1,16 +1,8 @@
 use Rattle.std.proofs.Common.{List, inl, inr, subst}
-use Rattle.rpki_relying_party.specs.Passes.{setting}
 use Rattle.rpki_relying_party.specs.Runs.{IsLeftRefusal, KeepsAll}
 use Rattle.rpki_relying_party.specs.Walk.{Left}
 use Rattle.rpki_relying_party.specs.declared.place.Place.{Place}
-use Rattle.rpki_payloads.proofs.Reporting.{no-run}
 use Rattle.rpki_payloads.proofs.outcome.outcome_under.Goals as goal
-
-pub returns-in-Err : goal.returns-in-Err
-returns-in-Err g c =
-    no-run (setting g.R.Repository.finds g.C.Crypto.digest_of g.C.Crypto.is_signed
-    c.args.pass.now) c.args.tal.now c.args.limit c.in-Err.fault c.no_run.result
-    c.no_run.ensures.outcome c.no_run.ensures.memory c.in-Err.ensures.refused
 
 pub returns-in-Ok-refuse_unread : goal.returns-in-Ok-refuse_unread
 returns-in-Ok-refuse_unread g c = record {

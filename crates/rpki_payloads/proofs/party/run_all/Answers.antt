@@ -8,14 +8,14 @@ use Rattle.rpki_payloads.proofs.party.run_all.Goals as goal
 pub loop-one-preserved : goal.loop-one-preserved
 loop-one-preserved g c =
     let items : c.push.new.self.items
-    ≡ c.loop-one.outcomes.items ++ c.in_ok-run_named.field-0 ∷ [] = search rules in
+    ≡ c.loop-one.outcomes.items ++ c.run_named.result ∷ [] = search rules in
     rw items
     (run-more (λ (x : NamedLocator). IsOutcomeUnder
     (party_of g.F.Folders.finds g.C.Crypto.digest_of g.C.Crypto.is_signed c.args.party.now)
     c.args.request.now x.name.now x.locator) c.args.locators.now c.loop-one.one-index
-    c.one-item.result c.loop-one.outcomes.items c.in_ok-run_named.field-0 c.loop-one-test.true
+    c.one-item.result c.loop-one.outcomes.items c.run_named.result c.loop-one-test.true
     c.loop-one.invariant
     (subst (λ (x : NamedLocator). IsOutcomeUnder
     (party_of g.F.Folders.finds g.C.Crypto.digest_of g.C.Crypto.is_signed c.args.party.now)
-    c.args.request.now x.name.now x.locator c.in_ok-run_named.field-0) c.one-item.is
-    c.in_ok-run_named.ensures))
+    c.args.request.now x.name.now x.locator c.run_named.result) c.one-item.is
+    c.run_named.ensures))
