@@ -87,9 +87,9 @@ class Tree:
         self.a.add_ca(self.c)
         self.cas[3:] = [self.c]
 
-    def ca(self, name, prefixes, numbers=(), issuer=None, key=None):
+    def ca(self, name, prefixes, numbers=(), issuer=None, **places):
         """A further CA, which its issuer lists."""
-        ca = Ca(name, make.Claim(list(prefixes), list(numbers)), issuer or self.top, key=key)
+        ca = Ca(name, make.Claim(list(prefixes), list(numbers)), issuer or self.top, **places)
         self.cas.append(ca)
         ca.issuer.add_ca(ca)
         return ca
@@ -576,22 +576,23 @@ TREES = SHAPES + POINTS + FILES + LOCATORS + DEVICES
 # ---- hostile CAs
 
 PLACE = "10.9.0.0/16"
+LONG_FOLDER = f"rsync://{HOST}/m/" + f"{'h' * 249}/" * 14
 
 
 def numbers(count):
     return [(65100 + 2 * at, 65100 + 2 * at) for at in range(count)]
 
 
-def hostile(t, count=0, also=(), name="h", key=None):
+def hostile(t, count=0, also=(), name="h", **places):
     """A CA that the anchor lists before all others, with so many AS numbers."""
-    ca = t.ca(name, [PLACE, *also], numbers(count), key=key)
+    ca = t.ca(name, [PLACE, *also], numbers(count), **places)
     t.top.files = {f"{name}.cer": t.top.files.pop(f"{name}.cer"), **t.top.files}
     return ca
 
 
 def below(t, above, name="x", count=0, key=None):
     """A CA below a hostile one, with a ROA, which is found too."""
-    ca = t.ca(name, [PLACE], numbers(count), above, key)
+    ca = t.ca(name, [PLACE], numbers(count), above, key=key)
     number = 65100 + len(t.cas)
     ca.add_roa("o.roa", number, [PLACE])
     t.found["one"] = [*t.found["one"], origin(number, PLACE)]
@@ -603,15 +604,41 @@ def serials(count):
     return range(1_000_000, 1_000_000 + count)
 
 
+def again(ca, name, count):
+    """A CA lists a file under so many names more."""
+    for at in range(count):
+        ca.add(f"{at}{name}", ca.files[name])
+
+
+def addresses(family, items):
+    """The addresses of a family, in a certificate or in a ROA."""
+    return make.sequence(make.octet_string(bytes([0, family])), make.sequence(items))
+
+
+def list_more(t, ca, count):
+    """The manifest of a CA lists so many files that are not there, after its revocation list."""
+    digest = hashlib.sha256(ca.published()[ca.crl]).digest()
+    names = [(f"{ca.name}.crl", digest), *((f"{at}.roa", digest) for at in range(count))]
+    listed = make.sequence(*(make.sequence(make.ia5(it), make.bits(digest)) for it, digest in names))
+    times = make.generalized(SIGNED) + make.generalized(NEXT)
+    content = make.sequence(make.integer(1), times, make.SHA256, listed)
+    name = ca.manifest.rsplit("/", 1)[1]
+    t.put(ca.manifest, ca.object(name, make.MANIFEST, content, INHERITED, serial=ca.MANIFEST_SERIAL))
+
+
+def raw_roa(ca, number, prefixes, said):
+    """A ROA of these addresses, in place of the one that there is. Its certificate has the prefixes."""
+    content = make.sequence(make.integer(number), make.sequence(said))
+    ca.add("o.roa", ca.object("o.roa", make.ROA, content, make.Claim(prefixes, [])))
+
+
 def many_names(t, count):
     """Two manifests that list one certificate under so many names."""
     h = hostile(t)
     x = below(t, h)
     y = below(t, x, "y")
-    for above, ca in ((h, x), (x, y)):
-        octets = ca.certificate(above)
-        for at in range(count):
-            above.add(f"{ca.name}{at}.cer", octets)
+    again(h, "x.cer", count)
+    again(x, "y.cer", count)
 
 
 def two_keys(t, count):
@@ -630,8 +657,7 @@ def one_roa(t, count):
     """A ROA of 2,000 prefixes, under so many names."""
     h, prefixes = hostile(t, also=["10.16.0.0/12"]), [f"10.{16 + (at >> 8)}.{at & 255}.0/24" for at in range(2000)]
     h.add_roa("o.roa", 65100, prefixes)
-    for at in range(count):
-        h.add(f"{at}.roa", h.files["o.roa"])
+    again(h, "o.roa", count)
     t.says(A + C + B + [origin(65100, it) for it in prefixes])
 
 
@@ -696,9 +722,9 @@ def long_list(t, count):
     t.says(A + C + B + [origin(65100, f"10.9.{at}.0/24") for at in range(count)])
 
 
-def empty_files(t, count):
+def empty_files(t, count, **places):
     """So many ROAs of no octets."""
-    h = hostile(t)
+    h = hostile(t, **places)
     h.files |= {f"{at}.roa": b"" for at in range(count)}
     t.says(A + C + B, *((f"{h.folder}{at}.roa", BAD, h.manifest) for at in range(count)))
 
@@ -718,7 +744,92 @@ def long_chain(t, count):
         above = below(t, above, f"h{at}", key=shared(at))
 
 
-# With how many there are of what, of the proved program and of another one.
+def split(t, count):
+    """A CA below a hostile one. Of a few addresses that this one has it has so many blocks: each
+    second /32."""
+    h = hostile(t, also=["3000::/8"])
+    x = below(t, h)
+    items = b"".join(make.bits(b"\x30" + (2 * at).to_bytes(3, "big")) for at in range(count))
+    both = make.sequence(addresses(1, make.prefix(PLACE)), addresses(2, items))
+    x.claim = make.Claim([], [])
+    h.files["x.cer"] = x.certificate(more=make.extension("1.3.6.1.5.5.7.1.7", True, both))
+    return x
+
+
+def copied_sets(t, count):
+    """So many ROAs whose certificates inherit, of a CA with 250 times as many blocks. It takes time:
+    for each of these certificates all blocks are copied."""
+    x = split(t, 250 * count)
+    x.add_roa("i.roa", 65100, [PLACE], make.Claim(make.INHERIT, []))
+    again(x, "i.roa", count)
+    t.says(t.found["one"], *((f"{x.folder}{it}", NO_AS, x.manifest) for it in x.files if "i." in it))
+
+
+def held_sets(t, count):
+    """So many CAs that inherit, of one with 1,000 times as many blocks. It takes memory: while they
+    wait, each holds a copy of all blocks."""
+    x = split(t, 1_000 * count)
+    y = below(t, x, "y")
+    y.claim = make.Claim(make.INHERIT, [])
+    x.files["y.cer"] = y.certificate()
+    again(x, "y.cer", count)
+
+
+def held_files(t, count):
+    """So many CAs below files with 10,000 times as many octets after the certificate, and as many with
+    these in an extension. It takes memory: while they wait, each holds its file."""
+    h, octets = hostile(t), bytes(10_000 * count)
+    x = below(t, h)
+    h.add("after.cer", x.certificate() + octets)
+    h.add("inside.cer", x.certificate(more=make.extension("1.3.6.1.4.1.32473.1", False, octets)))
+    again(h, "after.cer", count)
+    again(h, "inside.cer", count)
+
+
+def one_prefix(t, count):
+    """A ROA that says one prefix 1,000 times as often as it is listed. It takes memory: all that a
+    point says is held until it is read, repeats included."""
+    h = hostile(t)
+    raw_roa(h, 65100, [PLACE], addresses(1, make.sequence(make.prefix(PLACE)) * (1_000 * count)))
+    again(h, "o.roa", count)
+    t.says(A + C + B + [origin(65100, PLACE)])
+
+
+def many_prefixes(t, count):
+    """The same with different prefixes, which are held for longer."""
+    h = hostile(t, also=["2001:db8:1::/48"])
+    raw_roa(h, 65100, ["2001:db8:1::/48"], addresses(2, prefixes_of(1_000 * count)))
+    again(h, "o.roa", count)
+    t.says(A + C + B + [origin(65100, f"{prefix_of(at)}/80") for at in range(1_000 * count)])
+
+
+def long_refusals(t, count):
+    """So many files that are not good, below a URI of 3,500 octets. It takes memory, and writes much:
+    a refusal holds the URIs of the file and of the manifest, and has a line of both."""
+    empty_files(t, count, folder=LONG_FOLDER)
+
+
+def long_names(t, count):
+    """A manifest of so many files that are not there, below such a URI. It takes memory and time: the
+    URIs of all are held and compared before a file is looked for."""
+    h = hostile(t, folder=LONG_FOLDER)
+    list_more(t, h, count)
+    t.says(A + C + B, (h.manifest, f"0.roa {GONE}", t.top.manifest))
+
+
+def deep_folder(t, count):
+    """So many files that are not good, below 440 folders in one another. It takes time: for each file
+    the system is asked for each folder, and goes down to it from the first."""
+    empty_files(t, count, folder=f"rsync://{HOST}/m/" + "hhhhhhh/" * 440)
+
+
+# So many MiB of memory a run may take, where the hostile part of a tree spends the whole limit on the
+# work, as those of the larger trees may; a quarter of that with the others.
+MOST_MEMORY = 1_536
+# The least limit of a tree, where more than `--limit` is needed. So many siblings have equal shares of
+# what their list of certificates leaves: with less a share is too small for what `a` and `c` say.
+LEAST = {siblings: 4_000_000}
+# With how many there are of what: of the proved program, of another one, and where more are measured.
 HOSTILE = [
     ("two manifests that list one certificate many times", many_names, 1_001, 40),
     ("two keys that certify each other", two_keys, 8, 3),
@@ -734,6 +845,14 @@ HOSTILE = [
     ("a circle of 2", circle, 2, 2),
     ("a circle of 50", circle, 50, 5),
     ("a chain of 100", long_chain, 100, 5),
+    ("ROAs that inherit many blocks", copied_sets, 500, 10, 2_000),
+    ("CAs that inherit many blocks", held_sets, 50, 5, 250),
+    ("CAs with large files", held_files, 50, 3, 300),
+    ("a ROA of one prefix that is listed many times", one_prefix, 35, 3, 120),
+    ("a ROA of many prefixes that is listed many times", many_prefixes, 30, 3, 110),
+    ("ROAs of no octets below a long URI", long_refusals, 5_000, 50, 70_000),
+    ("ROAs of no octets in a deep folder", deep_folder, 100, 10, 1_000),
+    ("a manifest of many files below a long URI", long_names, 4_000, 100, 60_000),
 ]
 
 
@@ -750,14 +869,15 @@ def prefix_of(at):
     return f"2001:db8:1:{fourth:x}:{fifth:x}::" if fifth else f"2001:db8:1:{fourth:x}::" if fourth else "2001:db8:1::"
 
 
+def prefixes_of(count):
+    """So many of these, as a ROA has them."""
+    head, first = make.sequence(make.bits(bytes(10)))[:-10], bytes.fromhex("20010db80001")
+    return b"".join(head + first + at.to_bytes(4, "big") for at in range(count))
+
+
 def add_prefixes(ca, count):
     """Adds a ROA with very many prefixes. Returns what it says."""
-    head, first = make.sequence(make.bits(bytes(10)))[:-10], bytes.fromhex("20010db80001")
-    addresses = make.sequence(b"".join(head + first + at.to_bytes(4, "big") for at in range(count)))
-    family = make.sequence(make.octet_string(b"\0\2"), addresses)
-    content = make.sequence(make.integer(65001), make.sequence(family))
-    claim = make.Claim(["2001:db8:1::/48"], [])
-    ca.add("o.roa", ca.object("o.roa", make.ROA, content, claim))
+    raw_roa(ca, 65001, ["2001:db8:1::/48"], addresses(2, prefixes_of(count)))
     return [origin(65001, f"{prefix_of(at)}/80") for at in range(count)]
 
 
@@ -782,14 +902,7 @@ def beside_prefixes(t, count):
 
 def of_files(t):
     """The manifest of `a` lists very many files that are not there, after its revocation list."""
-    digest = hashlib.sha256(t.a.published()[t.a.crl]).digest()
-    names = [("a.crl", digest), *((f"{at}.roa", digest) for at in range(FILES_LISTED))]
-    listed = make.sequence(*(make.sequence(make.ia5(it), make.bits(digest)) for it, digest in names))
-    times = make.generalized(SIGNED) + make.generalized(NEXT)
-    content = make.sequence(make.integer(1), times, make.SHA256, listed)
-    name = t.a.manifest.rsplit("/", 1)[1]
-    t.put(t.a.manifest, t.a.object(name, make.MANIFEST, content, INHERITED,
-                                   serial=t.a.MANIFEST_SERIAL))
+    list_more(t, t.a, FILES_LISTED)
     t.says(B, (t.a.manifest, f"0.roa {GONE}", t.top.manifest))
 
 
