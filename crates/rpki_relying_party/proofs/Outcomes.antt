@@ -21,6 +21,13 @@ pub outcome-of-room : {T : Type 0} (Starts : ℕ → Type 0) (Yes : T → ℕ �
 outcome-of-room Starts Yes Why n old new c stop h =
     subst (λ (s : Stop). IsOutcome Starts Yes Why old new (Err s)) (sym (h.0)) (n, c, h.1)
 
+-- memory ran out
+pub outcome-of-memory : {T : Type 0} (Starts : ℕ → Type 0) (Yes : T → ℕ → Type 0)
+    (Why : Cause → ℕ → Type 0) (old new : ℕ) (stop : Stop) → stop ≡ Memory
+    → IsOutcome Starts Yes Why old new (Err stop)
+outcome-of-memory Starts Yes Why old new stop e =
+    subst (λ (s : Stop). IsOutcome Starts Yes Why old new (Err s)) (sym e) tt
+
 -- Some first steps that cost A cost C.
 module _ {A : ℕ → Type 0} (C : ℕ → Type 0) (starts : (n : ℕ) → A n → C n)
     {V W : Cause → ℕ → Type 0} (why : (cause : Cause) (n : ℕ) → V cause n → W cause n)

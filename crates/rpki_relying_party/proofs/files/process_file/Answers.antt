@@ -1,5 +1,5 @@
 use Rattle.std.proofs.Common.{◌≡◌, Ok, sym, ◌∙◌, true≢false}
-use Rattle.rpki_relying_party.specs.Costs.{FileCosts, found_cost}
+use Rattle.rpki_relying_party.specs.Costs.{FileCosts, found_cost, listing_cost}
 use Rattle.rpki_relying_party.specs.Outcome.{AppendsBoth}
 use Rattle.rpki_relying_party.specs.Passes.{setting}
 use Rattle.rpki_relying_party.specs.Point.{Has}
@@ -26,12 +26,13 @@ returns-in-Err g c =
     file-lost s above.ca.now above.list.now.uri list above.until above.manifest.now c.args.listed
     c.args.findings.now.said.items c.args.findings.now.children.items
     (λ e. true≢false (sym (c.are_same.ensures.1 e) ∙ c.if-are_same.false))
-    (λ octets n. Has s c.args.listed octets × (n ≡ found_cost (Ok octets)))
+    (λ octets n. Has s c.args.listed octets
+    × (n ≡ found_cost (listing_cost above.ca.now above.manifest.now (c.args.listed.0)) (Ok octets)))
     (λ (_ : Unit {0}) n. AppendsBoth (FileTells s above.ca.now
     above.list.now.uri list above.until above.manifest.now c.args.listed)
     c.args.findings.now.said.items c.args.findings.now.said.items
     c.args.findings.now.children.items c.args.findings.now.children.items
-    × FileCosts s above.ca.now above.list.now.uri list c.args.listed n)
+    × FileCosts s above.ca.now above.list.now.uri list above.manifest.now c.args.listed n)
     c.args.room.now c.read_listed.new.room c.in-Err.stop c.in-Err.ensures
 
 pub returns-in-Ok : goal.returns-in-Ok
