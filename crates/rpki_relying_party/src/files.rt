@@ -131,6 +131,21 @@ fn names_prefixes_alone(cert: &Cert) -> bool
 const PAYLOAD: u128 = 1024;
 
 // Puts a payload at the end of a list.
+fn push_payload(
+    payload: Payload,
+    until: Time,
+    uri: &Rsync,
+    said: &mut Vec<Finding>,
+) -> Result<(), AllocError>
+    ensures { IfOk result (λ _. said.new.items
+        ≡ said.old.items ++ payload_said until uri.now payload ∷ []) }
+{
+    let object = uri.clone()?;
+    said.push(Finding::Payload(payload, Held { until, object }))?;
+    Ok(())
+}
+
+// Spends what a payload costs, and puts it at the end of a list.
 fn put_payload(
     payload: Payload,
     until: Time,
@@ -144,12 +159,9 @@ fn put_payload(
     if let Err(stop) = spend(room, PAYLOAD) {
         return Err(stop);
     }
-    match uri.clone() {
+    match push_payload(payload, until, uri, said) {
         Err(_) => Err(Stop::Memory),
-        Ok(object) => match said.push(Finding::Payload(payload, Held { until, object })) {
-            Err(_) => Err(Stop::Memory),
-            Ok(()) => Ok(()),
-        },
+        Ok(()) => Ok(()),
     }
 }
 
@@ -326,7 +338,34 @@ fn refuse_cert(
     }
 }
 
-// The certificate of a CA is that of a child, which costs so much.
+// The certificate of a CA is that of a child.
+fn push_child(
+    above: &Above<'_>,
+    ca: ResourceCert,
+    children: &mut Vec<Place>,
+) -> Result<(), AllocError>
+    ensures { IfOk result (λ _. children.new.items
+        ≡ children.old.items ++ child_of above.now.until above.now.manifest.now ca ∷ []) }
+{
+    let until = earlier(above.until, ca.cert().validity().not_after());
+    match above.manifest.clone() {
+        Err(error) => {
+            drop(ca);
+            Err(error)
+        }
+        Ok(manifest) => {
+            let listed_by = Some(manifest);
+            children.push(Place {
+                ca,
+                until,
+                listed_by,
+            })?;
+            Ok(())
+        }
+    }
+}
+
+// Spends what a child costs, and puts it at the end of a list.
 fn put_child(
     above: &Above<'_>,
     ca: ResourceCert,
@@ -341,23 +380,9 @@ fn put_child(
         drop(ca);
         return Err(stop);
     }
-    let until = earlier(above.until, ca.cert().validity().not_after());
-    match above.manifest.clone() {
-        Err(_) => {
-            drop(ca);
-            Err(Stop::Memory)
-        }
-        Ok(manifest) => {
-            let listed_by = Some(manifest);
-            match children.push(Place {
-                ca,
-                until,
-                listed_by,
-            }) {
-                Err(_) => Err(Stop::Memory),
-                Ok(()) => Ok(()),
-            }
-        }
+    match push_child(above, ca, children) {
+        Err(_) => Err(Stop::Memory),
+        Ok(()) => Ok(()),
     }
 }
 

@@ -29,7 +29,7 @@ loop-origin-preserved c =
     c.loop-origin.said.items c.put_payload.new.said.items c.loop-origin.room c.put_payload.new.room
     (rw c.in-Some.ensures.steps at c.loop-origin.invariant)
     (ap (λ (o : Origin). payload_said c.args.until c.args.uri.now (payloads.Origin o))
-    c.origin_of.ensures) c.in-Ok.ensures
+    c.origin_of.ensures) c.in_default.ensures
 
 pub returns-in-Err : goal.returns-in-Err
 returns-in-Err c =
