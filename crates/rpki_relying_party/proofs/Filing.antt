@@ -62,14 +62,16 @@ module _ (s : Setting) (ca : Validated) (list_uri : List ℕ) (list : Revocation
     module _ (other : ¬ (file.0 ≡ list_uri)) where
       -- a file that is lost
       pub file-lost : {T U : Type 0} (Yes : T → ℕ → Type 0) (Yes2 : U → ℕ → Type 0) (old new : ℕ)
-          (stop : Stop)
-          → IsOutcome (ReadStarts s price (file.0)) Yes
-          (λ cause n. IsLostFile s file cause × ReadCosts s price (file.0) n) old new (Err stop)
+          (stop : Stop) (p : ℕ) → p ≡ price
+          → IsOutcome (ReadStarts s p (file.0)) Yes
+          (λ cause n. IsLostFile s file cause × ReadCosts s p (file.0) n) old new (Err stop)
           → IsOutcome Starts Yes2 Lost old new (Err stop)
-      file-lost Yes Yes2 old new stop h =
-          outcome-stops {A = ReadStarts s price (file.0)} Starts (λ n c. (other, inl c))
-          {V = λ cause n. IsLostFile s file cause × ReadCosts s price (file.0) n} {W = Lost}
-          (λ cause n l. (other, l.0, l.1)) old new Yes Yes2 stop h
+      file-lost Yes Yes2 old new stop p e h =
+          outcome-stops {A = ReadStarts s p (file.0)} Starts
+          (λ n c. (other, inl (subst (λ (k : ℕ). ReadStarts s k (file.0) n) e c)))
+          {V = λ cause n. IsLostFile s file cause × ReadCosts s p (file.0) n} {W = Lost}
+          (λ cause n l. (other, l.0, subst (λ (k : ℕ). ReadCosts s k (file.0) n) e (l.1))) old new
+          Yes Yes2 stop h
 
       module _ (octets : List ℕ) where
         -- it is read, and judged by its kind

@@ -1,5 +1,5 @@
 -- What a file tells by its kind, and what is spent on that.
-use Rattle.std.proofs.Common.{◌≡◌, ◌⊎◌, inl, inr, ℕ, ◌*◌, List, [], ◌∷◌, ◌++◌, length, map}
+use Rattle.std.proofs.Common.{◌≡◌, ◌⊎◌, inl, inr, ℕ, ◌+◌, ◌*◌, List, [], ◌∷◌, ◌++◌, length, map}
 use Rattle.std.proofs.Common.{Result, Ok, Err, IfOk, MatchResult, refl, sym, subst, ap, ◌∙◌}
 use Rattle.std.proofs.Common.{append_assoc, arith}
 use Rattle.std.proofs.lemmas.List.{append-nil}
@@ -24,7 +24,7 @@ use Rattle.rpki_relying_party.specs.Setting.{Setting}
 use Rattle.rpki_relying_party.specs.Tells.{NamesPrefixesAlone, HasEntity, WhyNoRoa, WhyNoAspa}
 use Rattle.rpki_relying_party.specs.Tells.{CaTells, KindTells, earlier, refusal}
 use Rattle.rpki_relying_party.specs.Tells.{origins_said, providers_said}
-use Rattle.rpki_relying_party.specs.Tells.{child_of}
+use Rattle.rpki_relying_party.specs.Tells.{HasRoa, child_of}
 use Rattle.rpki_relying_party.specs.Under.{SaysOf, IsCaUnder}
 use Rattle.rpki_relying_party.specs.declared.cause.Cause.{Cause}
 use Rattle.rpki_relying_party.specs.declared.cause.Cause.TheVariants as causes
@@ -55,8 +55,11 @@ module _ {A : Type 0} (said-of : A → Finding) (all : List Finding) (count : �
   none-paid rest e f = (ap (λ (l : List Finding). old ++ l) e, omega (arith, f))
 
   -- one more is put
-  module _ (x : A) (rest : List A) (said : Finding) (now now2 : List Finding) (left left2 : ℕ)
-      (h : IsPaid (x ∷ rest) now left) where
+  module _ (x : A) (rest more : List A) (said : Finding) (now now2 : List Finding)
+      (left left2 : ℕ) (next : more ≡ x ∷ rest) (paid : IsPaid more now left) where
+    h : IsPaid (x ∷ rest) now left
+    h = subst (λ (l : List A). IsPaid l now left) next paid
+
     pub one-paid : said ≡ said-of x → Puts payload_cost (said ∷ []) now now2 left left2 (Ok tt)
         → IsPaid rest now2 left2
     one-paid e p = (
@@ -72,9 +75,10 @@ module _ {A : Type 0} (said-of : A → Finding) (all : List Finding) (count : �
     not-paid Memory p = tt
     not-paid (Refused cause) p = absurd (p.1)
 
-  pub all-paid : (now : List Finding) (left : ℕ) → IsPaid [] now left
-      → Puts (payload_cost * count) all old now room left (Ok tt)
-  all-paid now left h =
+  pub all-paid : (rest : List A) (now : List Finding) (left : ℕ) → rest ≡ []
+      → IsPaid rest now left → Puts (payload_cost * count) all old now room left (Ok tt)
+  all-paid rest now left e paid =
+      let h = subst (λ (l : List A). IsPaid l now left) e paid in
       (payload_cost * count, (sym (append-nil now) ∙ h.0, refl), omega (arith, h.1))
 
 -- ---- what a file tells
@@ -106,7 +110,8 @@ module _ (s : Setting) (ca : Validated) (list : RevocationList) (until : Moment)
         (origins_said (earlier until cert.cert.certificate.tbs.validity.not_after) uri roa) []
         (payload_cost * length (addresses roa))
     roa-told alone =
-        let good = (has-content s roa_kind RoaForm ca list octets (cert, roa) h, alone) in (
+        let good : HasRoa s ca list octets cert.cert.certificate roa =
+        (has-content s roa_kind RoaForm ca list octets (cert, roa) h, alone) in (
           (inl (cert.cert.certificate, roa, good, refl), refl),
           inl ((cert.cert.certificate, roa), good, refl),
         )

@@ -124,8 +124,8 @@ abbrev pub IsSeen : (Why → List ℕ → ℕ) → List (Left Place) → Finding
 IsSeen counts seen x = (u : Left Place) × Contains seen u × IsRefusalFor counts u x
 
 -- one place more is refused
-pub seen-next : (counts : Why → List ℕ → ℕ) (unread : List (Left Place)) (i : ℕ) → i < length unread
-    → (u : Left Place) → u ≡ get_or unread i u → (first old new : Found)
+pub seen-next : (counts : Why → List ℕ → ℕ) (unread : List (Left Place)) (i : ℕ)
+    → i < length unread → (u : Left Place) → u ≡ get_or unread i u → (first old new : Found)
     → KeepsAll (IsSeen counts (take i unread)) first old → KeepsAll (IsRefusalFor counts u) old new
     → KeepsAll (IsSeen counts (take (i + 1) unread)) first new
 seen-next counts unread i within u e first old new before one = subst

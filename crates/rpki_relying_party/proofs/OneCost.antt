@@ -169,7 +169,8 @@ module _ (s : Setting) (one : FindsOne s) where
 
         -- some first steps are a part of all
         starts-within : (h : FilesStart s ca list_uri list under files m)
-            (all more : List UriAndHash) → FilesCost s ca list_uri list under all n → all ≡ h.before ++ h.file ∷ more → m ≤ n
+            (all more : List UriAndHash) → FilesCost s ca list_uri list under all n
+            → all ≡ h.before ++ h.file ∷ more → m ≤ n
         starts-within h all more g e =
             let c = spent-cut h.before h.file more n (subst (λ (fs : List UriAndHash).
             FilesCost s ca list_uri list under fs n) e g) in

@@ -35,7 +35,7 @@ blocks_of v = length v.sets.as_numbers + (length v.sets.v4 + length v.sets.v6)
 -- second. A certificate that inherits copies the sets of the CA, and a refusal holds both URIs.
 abbrev pub listing_cost : Validated → List ℕ → List ℕ → ℕ
 listing_cost ca under uri =
-    opening_cost + blocks_of ca / 8 + 8 * (length uri + length under)
+    opening_cost + blocks_of ca / 8 + 16 * (length uri + length under)
 
 -- what was found for a URI: this price for looking for it, and one for each octet
 abbrev pub found_cost : ℕ → Result (List ℕ) NoFile → ℕ
@@ -44,7 +44,7 @@ found_cost price (Err why) = price
 
 -- what a payload takes, with the URI of the object that says it
 abbrev pub payload_cost : ℕ
-payload_cost = 1024
+payload_cost = 2048
 
 -- what a place takes that waits: 16,384, and 8 for each octet of its certificate and 1,024 for each
 -- block of its sets

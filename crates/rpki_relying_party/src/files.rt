@@ -128,7 +128,7 @@ fn names_prefixes_alone(cert: &Cert) -> bool
 }
 
 // What a payload costs that is held.
-const PAYLOAD: u128 = 1024;
+const PAYLOAD: u128 = 2048;
 
 // Puts a payload at the end of a list.
 fn push_payload(

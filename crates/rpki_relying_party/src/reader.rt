@@ -26,7 +26,7 @@ pub(crate) fn listing_cost(ca: &ResourceCert, manifest: &Rsync, uri: &Rsync) -> 
     ensures { result ≡ listing_cost ca.now manifest.now uri.now }
 {
     let uris = uri.as_slice().len() as u128 + manifest.as_slice().len() as u128;
-    OPENING + count_blocks(ca) / 8 + 8 * uris
+    OPENING + count_blocks(ca) / 8 + 16 * uris
 }
 
 /// Spends so much of the room, unless there is less.

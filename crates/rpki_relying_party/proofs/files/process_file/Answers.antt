@@ -1,5 +1,5 @@
 use Rattle.std.proofs.Common.{◌≡◌, Ok, sym, ◌∙◌, true≢false}
-use Rattle.rpki_relying_party.specs.Costs.{FileCosts, found_cost, listing_cost}
+use Rattle.rpki_relying_party.specs.Costs.{FileCosts, found_cost}
 use Rattle.rpki_relying_party.specs.Outcome.{AppendsBoth}
 use Rattle.rpki_relying_party.specs.Passes.{setting}
 use Rattle.rpki_relying_party.specs.Point.{Has}
@@ -27,14 +27,14 @@ returns-in-Err g c =
     c.args.findings.now.said.items c.args.findings.now.children.items
     (λ e. true≢false (sym (c.are_same.ensures.1 e) ∙ c.if-are_same.false))
     (λ octets n. Has s c.args.listed octets
-    × (n ≡ found_cost (listing_cost above.ca.now above.manifest.now (c.args.listed.0)) (Ok octets)))
+    × (n ≡ found_cost c.listing_cost-price.result (Ok octets)))
     (λ (_ : Unit {0}) n. AppendsBoth (FileTells s above.ca.now
     above.list.now.uri list above.until above.manifest.now c.args.listed)
     c.args.findings.now.said.items c.args.findings.now.said.items
     c.args.findings.now.children.items c.args.findings.now.children.items
     × FileCosts s above.ca.now above.list.now.uri list above.manifest.now c.args.listed n)
-    c.args.room.now c.read_listed.new.room c.in-Err.stop
-    (rw c.listing_cost-price.ensures at c.in-Err.ensures)
+    c.args.room.now c.read_listed.new.room c.in-Err.stop c.listing_cost-price.result
+    c.listing_cost-price.ensures c.in-Err.ensures
 
 pub returns-in-Ok : goal.returns-in-Ok
 returns-in-Ok g c =

@@ -19,8 +19,8 @@ returns-in-Roa g c =
     judged-as s above.ca.now list above.until above.manifest.now c.args.uri c.args.octets kinds.Roa
     (kind_of c.args.uri)
     (c.in-Roa.ensures ∙ ap (λ (n : List ℕ). kind_of n) c.as_slice.ensures.octets)
-    c.args.findings.now c.process_roa.new.findings c.args.room.now c.process_roa.new.room c.process_roa.result
-    c.process_roa.ensures
+    c.args.findings.now c.process_roa.new.findings c.args.room.now c.process_roa.new.room
+    c.process_roa.result c.process_roa.ensures
 
 pub returns-in-Aspa : goal.returns-in-Aspa
 returns-in-Aspa g c =
@@ -31,8 +31,8 @@ returns-in-Aspa g c =
     judged-as s above.ca.now list above.until above.manifest.now c.args.uri c.args.octets kinds.Aspa
     (kind_of c.args.uri)
     (c.in-Aspa.ensures ∙ ap (λ (n : List ℕ). kind_of n) c.as_slice.ensures.octets)
-    c.args.findings.now c.process_aspa.new.findings c.args.room.now c.process_aspa.new.room c.process_aspa.result
-    c.process_aspa.ensures
+    c.args.findings.now c.process_aspa.new.findings c.args.room.now c.process_aspa.new.room
+    c.process_aspa.result c.process_aspa.ensures
 
 pub returns-in-Ca : goal.returns-in-Ca
 returns-in-Ca g c =
@@ -43,8 +43,8 @@ returns-in-Ca g c =
     judged-as s above.ca.now list above.until above.manifest.now c.args.uri c.args.octets kinds.Ca
     (kind_of c.args.uri)
     (c.in-Ca.ensures ∙ ap (λ (n : List ℕ). kind_of n) c.as_slice.ensures.octets)
-    c.args.findings.now c.process_cert.new.findings c.args.room.now c.process_cert.new.room c.process_cert.result
-    c.process_cert.ensures
+    c.args.findings.now c.process_cert.new.findings c.args.room.now c.process_cert.new.room
+    c.process_cert.result c.process_cert.ensures
 
 pub returns-in-Other : goal.returns-in-Other
 returns-in-Other g c =
@@ -52,8 +52,8 @@ returns-in-Other g c =
     c.args.pass.now in
     let above = c.args.above.now in
     let list = above.list.now.crl.list in
-    judged-as s above.ca.now list above.until above.manifest.now c.args.uri c.args.octets kinds.Other
-    (kind_of c.args.uri)
+    judged-as s above.ca.now list above.until above.manifest.now c.args.uri c.args.octets
+    kinds.Other (kind_of c.args.uri)
     (c.in-Other.ensures ∙ ap (λ (n : List ℕ). kind_of n) c.as_slice.ensures.octets)
     c.args.findings.now c.args.findings.now c.args.room.now c.args.room.now (Ok tt)
     (none-spent (λ n. AppendsBoth (KindTells s above.ca.now list above.until above.manifest.now

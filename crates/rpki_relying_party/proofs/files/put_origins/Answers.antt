@@ -13,9 +13,10 @@ pub loop-origin-init : goal.loop-origin-init
 loop-origin-init c =
     let says = origin_said c.args.until c.args.uri.now in
     let roa = c.args.roa.now in
-    let e = c.iter_origins-origin-iterator.ensures in
+    let e = c.into_iter-origin-iterator.ensures.into_iter_gives
+    ∙ c.iter_origins-origin-items.ensures in
     none-paid says (origins_said c.args.until c.args.uri.now roa) (length (addresses roa))
-    c.args.said.now.items c.args.room.now c.iter_origins-origin-iterator.result
+    c.args.said.now.items c.args.room.now c.into_iter-origin-iterator.result
     (ap (λ (l : List RouteOrigin). map says l) e)
     (ap (λ (l : List RouteOrigin). length l) e ∙ length-map (addresses roa) (origin_of roa.as_id))
 
@@ -25,9 +26,10 @@ loop-origin-preserved c =
     one-paid (origin_said c.args.until c.args.uri.now)
     (origins_said c.args.until c.args.uri.now roa) (length (addresses roa))
     c.args.said.now.items c.args.room.now c.in-Some.origin c.next.new.self
+    c.loop-origin.origin-iterator
     (payload_said c.args.until c.args.uri.now (payloads.Origin c.origin_of.result))
     c.loop-origin.said.items c.put_payload.new.said.items c.loop-origin.room c.put_payload.new.room
-    (rw c.in-Some.ensures.steps at c.loop-origin.invariant)
+    c.in-Some.ensures.steps c.loop-origin.invariant
     (ap (λ (o : Origin). payload_said c.args.until c.args.uri.now (payloads.Origin o))
     c.origin_of.ensures) c.in_default.ensures
 
@@ -37,14 +39,15 @@ returns-in-Err c =
     not-paid (origin_said c.args.until c.args.uri.now)
     (origins_said c.args.until c.args.uri.now roa) (length (addresses roa))
     c.args.said.now.items c.args.room.now c.in-Some.origin c.next.new.self
+    c.loop-origin.origin-iterator
     (payload_said c.args.until c.args.uri.now (payloads.Origin c.origin_of.result))
     c.loop-origin.said.items c.put_payload.new.said.items c.loop-origin.room c.put_payload.new.room
-    (rw c.in-Some.ensures.steps at c.loop-origin.invariant) c.in-Err.stop c.in-Err.ensures
+    c.in-Some.ensures.steps c.loop-origin.invariant c.in-Err.stop c.in-Err.ensures
 
 pub returns : goal.returns
 returns c =
     let roa = c.args.roa.now in
     all-paid (origin_said c.args.until c.args.uri.now)
     (origins_said c.args.until c.args.uri.now roa) (length (addresses roa))
-    c.args.said.now.items c.args.room.now c.loop-origin.said.items c.loop-origin.room
-    (rw c.in-None.ensures.steps at c.loop-origin.invariant)
+    c.args.said.now.items c.args.room.now c.loop-origin.origin-iterator c.loop-origin.said.items
+    c.loop-origin.room c.in-None.ensures.steps.0 c.loop-origin.invariant

@@ -10,11 +10,12 @@ pub loop-provider-init : goal.loop-provider-init
 loop-provider-init c =
     let says = provider_said c.args.until c.args.uri.now in
     let aspa = c.args.aspa.now in
-    let e : c.iter-provider-iterator.result ≡ aspa.providers =
-    c.iter-provider-iterator.ensures.providers ∙ c.provider_as_set.ensures.value in
+    let e : c.into_iter-provider-iterator.result ≡ aspa.providers =
+    c.into_iter-provider-iterator.ensures.into_iter_gives ∙ c.iter-provider-items.ensures.providers
+    ∙ c.provider_as_set.ensures.value in
     none-paid (says c.customer_as-customer.result)
     (providers_said c.args.until c.args.uri.now aspa) (length aspa.providers)
-    c.args.said.now.items c.args.room.now c.iter-provider-iterator.result
+    c.args.said.now.items c.args.room.now c.into_iter-provider-iterator.result
     (ap (λ (l : List ℕ). map (says c.customer_as-customer.result) l) e
     ∙ ap (λ (n : ℕ). map (says n) aspa.providers) c.customer_as-customer.ensures.value)
     (ap (λ (l : List ℕ). length l) e)
@@ -25,9 +26,10 @@ loop-provider-preserved c =
     one-paid (provider_said c.args.until c.args.uri.now c.customer_as-customer.result)
     (providers_said c.args.until c.args.uri.now aspa) (length aspa.providers)
     c.args.said.now.items c.args.room.now c.in-Some.provider c.next.new.self
+    c.loop-provider.provider-iterator
     (payload_said c.args.until c.args.uri.now (payloads.Provider c.provider_of.result))
     c.loop-provider.said.items c.put_payload.new.said.items c.loop-provider.room
-    c.put_payload.new.room (rw c.in-Some.ensures.steps at c.loop-provider.invariant)
+    c.put_payload.new.room c.in-Some.ensures.steps c.loop-provider.invariant
     (ap (λ (p : Provider). payload_said c.args.until c.args.uri.now (payloads.Provider p))
     c.provider_of.ensures) c.in_default.ensures
 
@@ -37,9 +39,10 @@ returns-in-Err c =
     not-paid (provider_said c.args.until c.args.uri.now c.customer_as-customer.result)
     (providers_said c.args.until c.args.uri.now aspa) (length aspa.providers)
     c.args.said.now.items c.args.room.now c.in-Some.provider c.next.new.self
+    c.loop-provider.provider-iterator
     (payload_said c.args.until c.args.uri.now (payloads.Provider c.provider_of.result))
     c.loop-provider.said.items c.put_payload.new.said.items c.loop-provider.room
-    c.put_payload.new.room (rw c.in-Some.ensures.steps at c.loop-provider.invariant) c.in-Err.stop
+    c.put_payload.new.room c.in-Some.ensures.steps c.loop-provider.invariant c.in-Err.stop
     c.in-Err.ensures
 
 pub returns : goal.returns
@@ -47,5 +50,5 @@ returns c =
     let aspa = c.args.aspa.now in
     all-paid (provider_said c.args.until c.args.uri.now c.customer_as-customer.result)
     (providers_said c.args.until c.args.uri.now aspa) (length aspa.providers)
-    c.args.said.now.items c.args.room.now c.loop-provider.said.items c.loop-provider.room
-    (rw c.in-None.ensures.steps at c.loop-provider.invariant)
+    c.args.said.now.items c.args.room.now c.loop-provider.provider-iterator c.loop-provider.said.items
+    c.loop-provider.room c.in-None.ensures.steps.0 c.loop-provider.invariant

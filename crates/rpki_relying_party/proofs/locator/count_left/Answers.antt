@@ -10,7 +10,7 @@ pub returns-then-not-is_same : goal.returns-then-not-is_same
 returns-then-not-is_same c =
     same-counted c.args.left.now c.args.why (count_for c.args.counts.now)
     (inl (ap (λ (u : Left Place). is_same u.why c.args.why) (sym c.left.view_is)
-    ∙ sym c.is_same.ensures ∙ c.if-not-is_same.false))
+    ∙ sym c.is_same.ensures ∙ c.if-not-is_same.true))
 
 pub returns-in-None : goal.returns-in-None
 returns-in-None c =
@@ -23,6 +23,6 @@ returns-in-Some c =
     (more-counted c.args.left.now c.args.why (count_for c.args.counts.now)
     (count_for c.count_one.new.counts) c.in-Some.uri.now
     (ap (λ (u : Left Place). is_same u.why c.args.why) (sym c.left.view_is)
-    ∙ sym c.is_same.ensures ∙ c.if-not-is_same.true)
+    ∙ sym c.is_same.ensures ∙ c.if-not-is_same.false)
     (ap (λ (u : Left Place). lister_of u.place) (sym c.left.view_is) ∙ sym c.in-Some.ensures))
     c.count_one.ensures
