@@ -7,9 +7,10 @@ use Rattle.rpki_basics.specs.Moment.{Moment}
 use Rattle.rpki_crls.specs.Crl.{RevocationList}
 use Rattle.rpki_certs.specs.Validate.{Validated}
 use Rattle.rpki_files.specs.Manifest.Uris.{UriAndHash}
-use Rattle.rpki_relying_party.specs.Costs.{ReadCosts, ReadStarts, ChildCosts, FileCosts}
+use Rattle.rpki_relying_party.specs.Costs.{ReadCosts, ReadStarts, HeldCosts, FileCosts}
 use Rattle.rpki_relying_party.specs.Costs.{FileStarts, FilesCost, FilesLost, FilesStart}
-use Rattle.rpki_relying_party.specs.Costs.{found_cost}
+use Rattle.rpki_relying_party.specs.Costs.{found_cost, listing_cost}
+use Rattle.rpki_relying_party.specs.Judged.{WhyLost}
 use Rattle.rpki_relying_party.specs.Kind.{kind_of}
 use Rattle.rpki_relying_party.specs.Lacks.{WhyNoFiles, IsLostFile}
 use Rattle.rpki_relying_party.specs.Outcome.{Spends, IsOutcome, AppendsBoth}
@@ -29,18 +30,25 @@ use Rattle.rpki_relying_party.proofs.Putting.{nothing-put, put-as}
 abbrev pub IsThere : Setting → List ℕ → UriAndHash → Type 0
 IsThere s list_uri f = (f.0 ≡ list_uri) ⊎ ((octets : List ℕ) × Has s f octets)
 
--- why the file refuses the point, and what is spent on it then
-abbrev pub WhyLost : Setting → List ℕ → UriAndHash → Cause → ℕ → Type 0
-WhyLost s list_uri file cause n =
-    (¬ (file.0 ≡ list_uri)) × IsLostFile s file cause × ReadCosts s (file.0) n
-
 module _ (s : Setting) (ca : Validated) (list_uri : List ℕ) (list : RevocationList)
     (until : Moment) (under : List ℕ) (file : UriAndHash) where
+  -- what it costs to look for it
+  abbrev price : ℕ
+  price = listing_cost ca under (file.0)
+
+  -- what is spent on some first steps with it
+  abbrev Starts : ℕ → Type 0
+  Starts n = FileStarts s ca list_uri list under file n
+
+  -- why it refuses the point, and what is spent on it then
+  abbrev Lost : Cause → ℕ → Type 0
+  Lost cause n = WhyLost s ca list_uri under file cause n
+
   module _ (said : List Finding) (children : List Place) where
     -- what the file told, and what was spent on it
     abbrev FileDone : List Finding → List Place → ℕ → Type 0
     FileDone said2 children2 n = AppendsBoth (FileTells s ca list_uri list until under file)
-        said said2 children children2 × FileCosts s ca list_uri list file n
+        said said2 children children2 × FileCosts s ca list_uri list under file n
 
     -- the revocation list tells nothing
     pub list-passed : file.0 ≡ list_uri → (room : ℕ)
@@ -54,46 +62,49 @@ module _ (s : Setting) (ca : Validated) (list_uri : List ℕ) (list : Revocation
     module _ (other : ¬ (file.0 ≡ list_uri)) where
       -- a file that is lost
       pub file-lost : {T U : Type 0} (Yes : T → ℕ → Type 0) (Yes2 : U → ℕ → Type 0) (old new : ℕ)
-          (stop : Stop)
-          → IsOutcome (ReadStarts s (file.0)) Yes
-          (λ cause n. IsLostFile s file cause × ReadCosts s (file.0) n) old new (Err stop)
-          → IsOutcome (FileStarts s ca list_uri list file) Yes2 (WhyLost s list_uri file) old new
-          (Err stop)
-      file-lost Yes Yes2 old new stop h =
-          outcome-stops {A = ReadStarts s (file.0)} (FileStarts s ca list_uri list file)
-          (λ n c. (other, inl c))
-          {V = λ cause n. IsLostFile s file cause × ReadCosts s (file.0) n}
-          {W = WhyLost s list_uri file}
-          (λ cause n l. (other, l.0, l.1)) old new Yes Yes2 stop h
+          (stop : Stop) (p : ℕ) → p ≡ price
+          → IsOutcome (ReadStarts s p (file.0)) Yes
+          (λ cause n. IsLostFile s file cause × ReadCosts s p (file.0) n) old new (Err stop)
+          → IsOutcome Starts Yes2 Lost old new (Err stop)
+      file-lost Yes Yes2 old new stop p e h =
+          outcome-stops {A = ReadStarts s p (file.0)} Starts
+          (λ n c. (other, inl (subst (λ (k : ℕ). ReadStarts s k (file.0) n) e c)))
+          {V = λ cause n. IsLostFile s file cause × ReadCosts s p (file.0) n} {W = Lost}
+          (λ cause n l. (other, l.0, subst (λ (k : ℕ). ReadCosts s k (file.0) n) e (l.1))) old new
+          Yes Yes2 stop h
 
-      module _ (octets : List ℕ) (old mid : ℕ)
-          (read : Spends (λ n. Has s file octets × (n ≡ found_cost (Ok octets))) old mid) where
+      module _ (octets : List ℕ) where
+        -- it is read, and judged by its kind
+        abbrev Read : ℕ → Type 0
+        Read n = Has s file octets × (n ≡ found_cost price (Ok octets))
+
+        abbrev Held : ℕ → Type 0
+        Held n = HeldCosts s ca list (kind_of (file.0)) octets n
+
+        abbrev Tells : List Finding → List Place → Type 0
+        Tells said2 children2 =
+            KindTells s ca list until under (file.0) octets (kind_of (file.0)) said2 children2
+
         -- one that is read tells what its kind does
-        pub file-read : (said2 : List Finding) (children2 : List Place) (new : ℕ)
-            (r : Result (Unit {0}) Stop)
-            → IsOutcome (ChildCosts s ca list (file.0) octets)
-            (λ _ n. AppendsBoth (KindTells s ca list until under (file.0) octets
-            (kind_of (file.0))) said said2 children children2
-            × ChildCosts s ca list (file.0) octets n) (λ cause n. ⊥) mid new r
-            → IsOutcome (FileStarts s ca list_uri list file) (λ _ n. FileDone said2 children2 n)
-            (WhyLost s list_uri file) old new r
-        file-read said2 children2 new r h =
-            outcome-then {F = λ n. Has s file octets × (n ≡ found_cost (Ok octets))}
-            {B = ChildCosts s ca list (file.0) octets} (FileStarts s ca list_uri list file)
+        pub file-read : (old mid : ℕ) → Spends Read old mid → (said2 : List Finding)
+            (children2 : List Place) (new : ℕ) (r : Result (Unit {0}) Stop)
+            → IsOutcome Held (λ _ n. AppendsBoth Tells said said2 children children2 × Held n)
+            (λ cause n. ⊥) mid new r
+            → IsOutcome Starts (λ _ n. FileDone said2 children2 n) Lost old new r
+        file-read old mid read said2 children2 new r h =
+            outcome-then {F = Read} {B = Held} Starts
             (λ a b f c. (other, inr (octets, b, f.0, c, sum a b (f.1))))
-            {V = λ cause n. ⊥} (WhyLost s list_uri file) (λ cause a b f w. absurd w) old mid new read
-            {Y = λ _ n. AppendsBoth (KindTells s ca list until under (file.0) octets
-            (kind_of (file.0))) said said2 children children2
-            × ChildCosts s ca list (file.0) octets n}
+            {V = λ cause n. ⊥} Lost (λ cause a b f w. absurd w) old mid new read
+            {Y = λ _ n. AppendsBoth Tells said said2 children children2 × Held n}
             (λ _ n. FileDone said2 children2 n)
             (λ _ a b f t. (
-              put-as (KindTells s ca list until under (file.0) octets (kind_of (file.0)))
-                  (FileTells s ca list_uri list until under file) said said2 children children2
-                  (λ put put2 k. inr (other, (octets, f.0, k))) (t.0),
+              put-as Tells (FileTells s ca list_uri list until under file) said said2 children
+                  children2 (λ put put2 k. inr (other, (octets, f.0, k))) (t.0),
               inr (other, (octets, b, f.0, t.1, sum a b (f.1))),
             )) r h
           where
-            sum : (a b : ℕ) → a ≡ found_cost (Ok octets) → a + b ≡ found_cost (Ok octets) + b
+            sum : (a b : ℕ) → a ≡ found_cost price (Ok octets)
+                → a + b ≡ found_cost price (Ok octets) + b
             sum a b e = ap (λ (n : ℕ). n + b) e
 
 -- What those that are left tell goes on what was told so far, and those before are there, at this
@@ -112,7 +123,7 @@ pub record IsTelling (s : Setting) (ca : Validated) (list_uri : List ℕ) (list 
   pub splits : all ≡ before ++ left
   pub there : All (IsThere s list_uri) before
   pub spent : ℕ
-  pub costs : FilesCost s ca list_uri list before spent
+  pub costs : FilesCost s ca list_uri list under before spent
   pub spends : rest + spent ≡ room
 
 module _ (s : Setting) (ca : Validated) (list_uri : List ℕ) (list : RevocationList)
@@ -125,8 +136,8 @@ module _ (s : Setting) (ca : Validated) (list_uri : List ℕ) (list : Revocation
 
   -- what is spent on one file more
   cost-push : (files : List UriAndHash) (file : UriAndHash) (m n : ℕ)
-      → FilesCost s ca list_uri list files m → FileCosts s ca list_uri list file n
-      → FilesCost s ca list_uri list (files ++ file ∷ []) (m + n)
+      → FilesCost s ca list_uri list under files m → FileCosts s ca list_uri list under file n
+      → FilesCost s ca list_uri list under (files ++ file ∷ []) (m + n)
   cost-push [] file m n c d = (n, 0, d, refl, omega (arith, c))
   cost-push (f ∷ files) file m n c d = (
     c.0,
@@ -158,7 +169,7 @@ module _ (s : Setting) (ca : Validated) (list_uri : List ℕ) (list : Revocation
       (h : IsTelling s ca list_uri list until under all left old now old2 now2 room rest) where
     pub ended : left ≡ [] → Spends (λ n.
         AppendsBoth (FilesTell s ca list_uri list until under all) old now old2 now2
-        × FilesCost s ca list_uri list all n) room rest
+        × FilesCost s ca list_uri list under all n) room rest
     ended e = (
       h.spent,
       (
@@ -171,7 +182,7 @@ module _ (s : Setting) (ca : Validated) (list_uri : List ℕ) (list : Revocation
           appends2 = h.appends2 ∙ ap (λ (l : List Place). old2 ++ l)
               (sym (append-nil h.children));
         },
-        subst (λ (l : List UriAndHash). FilesCost s ca list_uri list l h.spent)
+        subst (λ (l : List UriAndHash). FilesCost s ca list_uri list under l h.spent)
             (sym (h.splits ∙ (ap (λ (l : List UriAndHash). h.before ++ l) e
             ∙ append-nil h.before))) h.costs,
       ),
@@ -184,7 +195,7 @@ module _ (s : Setting) (ca : Validated) (list_uri : List ℕ) (list : Revocation
 
       pub one-more : (new : List Finding) (new2 : List Place) (rest2 : ℕ)
           → Spends (λ n. AppendsBoth (FileTells s ca list_uri list until under file) now new now2
-          new2 × FileCosts s ca list_uri list file n) rest rest2
+          new2 × FileCosts s ca list_uri list under file n) rest rest2
           → IsTelling s ca list_uri list until under all files old new old2 new2 room rest2
       one-more new new2 rest2 (n, (t, c), d) = record {
         said = h.said ++ t.put;
@@ -221,10 +232,10 @@ module _ (s : Setting) (ca : Validated) (list_uri : List ℕ) (list : Revocation
 
       -- where the next file stops, so do all
       pub stopped : {T : Type 0} (Yes Yes2 : T → ℕ → Type 0) (rest2 : ℕ) (stop : Stop)
-          → IsOutcome (FileStarts s ca list_uri list file) Yes
-          (WhyLost s list_uri file) rest rest2 (Err stop)
-          → IsOutcome (FilesStart s ca list_uri list all) Yes2
-          (λ cause n. WhyNoFiles s all list_uri cause × FilesLost s ca list_uri list all n)
+          → IsOutcome (FileStarts s ca list_uri list under file) Yes
+          (WhyLost s ca list_uri under file) rest rest2 (Err stop)
+          → IsOutcome (FilesStart s ca list_uri list under all) Yes2
+          (λ cause n. WhyNoFiles s all list_uri cause × FilesLost s ca list_uri list under all n)
           room rest2 (Err stop)
       stopped Yes Yes2 rest2 Room g = (
         h.spent + g.0,

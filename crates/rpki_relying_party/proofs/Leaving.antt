@@ -12,14 +12,13 @@ use Rattle.std.proofs.lemmas.List.{take_more, length-take}
 use Rattle.std.proofs.lemmas.List.Elements.{Contains-append_left, Contains-append_right}
 use Rattle.std.proofs.lemmas.List.Sums.{sum_by_more, count_by-le-length}
 use Rattle.std.proofs.lemmas.Slice.Eq.{bytes_eq-Decides}
-use Rattle.rpki_relying_party.specs.Runs.{lister_of, is_limit, is_limited, limited_under}
+use Rattle.rpki_relying_party.specs.Runs.{lister_of, is_same, is_left, left_under}
 use Rattle.rpki_relying_party.specs.Runs.{IsRefusalFor, KeepsAll, count_for}
 use Rattle.rpki_relying_party.specs.Walk.{Left}
 use Rattle.rpki_relying_party.specs.declared.found.Finding.{Finding}
 use Rattle.rpki_relying_party.specs.declared.found.Found.{Found}
 use Rattle.rpki_relying_party.specs.declared.place.Place.{Place}
 use Rattle.rpki_relying_party.specs.declared.walk.Why.{Why}
-use Rattle.rpki_relying_party.specs.declared.walk.Why.TheVariants.{Limit, Memory}
 use Rattle.rpki_relying_party.proofs.Lists.{contains-first, push-cases}
 
 -- ---- counting
@@ -38,50 +37,50 @@ one-more old new uri sets other =
     by true e = ap (λ (u : List ℕ). count_for old u + 1) ((bytes_eq-Decides uri other).0 e)
     by false e = omega arith
 
-module _ (u : Left Place) where
-  -- a place that was left for the limit is one of those of the CA that listed it
-  pub counts-one : (at : List ℕ) → u.why ≡ Limit → lister_of u.place ≡ Some at → (uri : List ℕ)
-      → is_limited uri u ≡ bytes_eq at uri
-  counts-one at limit lister uri =
-      ap (λ (w : Why). is_limit w && option_eq bytes_eq (lister_of u.place) (Some uri)) limit
+module _ (u : Left Place) (why : Why) where
+  -- a place that was left for this is one of those of the CA that listed it
+  pub counts-one : (at : List ℕ) → is_same u.why why ≡ true → lister_of u.place ≡ Some at
+      → (uri : List ℕ) → is_left why uri u ≡ bytes_eq at uri
+  counts-one at same lister uri =
+      ap (λ (b : Bool). b && option_eq bytes_eq (lister_of u.place) (Some uri)) same
       ∙ ap (λ (o : Option (List ℕ)). option_eq bytes_eq o (Some uri)) lister
 
   -- any other is none
-  pub counts-none : (u.why ≡ Memory) ⊎ (lister_of u.place ≡ None) → (uri : List ℕ)
-      → is_limited uri u ≡ false
-  counts-none (inl memory) uri =
-      ap (λ (w : Why). is_limit w && option_eq bytes_eq (lister_of u.place) (Some uri)) memory
+  pub counts-none : (is_same u.why why ≡ false) ⊎ (lister_of u.place ≡ None) → (uri : List ℕ)
+      → is_left why uri u ≡ false
+  counts-none (inl other) uri =
+      ap (λ (b : Bool). b && option_eq bytes_eq (lister_of u.place) (Some uri)) other
   counts-none (inr none) uri =
-      ap (λ (o : Option (List ℕ)). is_limit u.why && option_eq bytes_eq o (Some uri)) none
-      ∙ no (is_limit u.why)
+      ap (λ (o : Option (List ℕ)). is_same u.why why && option_eq bytes_eq o (Some uri)) none
+      ∙ no (is_same u.why why)
     where
       no : (b : Bool) → (b && false) ≡ false
       no true = refl
       no false = refl
 
-  pub more-counted : (old new : List ℕ → ℕ) (at : List ℕ) → u.why ≡ Limit
+  pub more-counted : (old new : List ℕ → ℕ) (at : List ℕ) → is_same u.why why ≡ true
       → lister_of u.place ≡ Some at
       → ((other : List ℕ) → new other ≡ old other + cond (bytes_eq at other) 1 0)
-      → (uri : List ℕ) → new uri ≡ old uri + cond (is_limited uri u) 1 0
-  more-counted old new at limit lister one uri =
-      one uri ∙ ap (λ (b : Bool). old uri + cond b 1 0) (sym (counts-one at limit lister uri))
+      → (uri : List ℕ) → new uri ≡ old uri + cond (is_left why uri u) 1 0
+  more-counted old new at same lister one uri =
+      one uri ∙ ap (λ (b : Bool). old uri + cond b 1 0) (sym (counts-one at same lister uri))
 
-  pub same-counted : (old : List ℕ → ℕ) → (u.why ≡ Memory) ⊎ (lister_of u.place ≡ None)
-      → (uri : List ℕ) → old uri ≡ old uri + cond (is_limited uri u) 1 0
+  pub same-counted : (old : List ℕ → ℕ) → (is_same u.why why ≡ false) ⊎ (lister_of u.place ≡ None)
+      → (uri : List ℕ) → old uri ≡ old uri + cond (is_left why uri u) 1 0
   same-counted old h uri =
       same ∙ ap (λ (b : Bool). old uri + cond b 1 0) (sym (counts-none h uri))
     where
       same : old uri ≡ old uri + 0
       same = omega arith
 
-module _ (unread : List (Left Place)) (i : ℕ) (counts : List ℕ → ℕ)
-    (so-far : (uri : List ℕ) → counts uri ≡ limited_under (take i unread) uri) where
+module _ (unread : List (Left Place)) (i : ℕ) (why : Why) (counts : List ℕ → ℕ)
+    (so-far : (uri : List ℕ) → counts uri ≡ left_under (take i unread) why uri) where
   -- as many were counted as were looked at, at most
   pub counts-fit : i + 1 < 2 ^ 64 → (uri : List ℕ) → counts uri + 1 < 2 ^ 64
   counts-fit short uri = omega (
     arith,
     so-far uri,
-    count_by-le-length (is_limited uri) (take i unread),
+    count_by-le-length (is_left why uri) (take i unread),
     length-take i unread,
     short,
   )
@@ -89,15 +88,15 @@ module _ (unread : List (Left Place)) (i : ℕ) (counts : List ℕ → ℕ)
   -- one place more is counted
   pub counts-next : i < length unread → (u : Left Place) → u ≡ get_or unread i u
       → (new : List ℕ → ℕ)
-      → ((uri : List ℕ) → new uri ≡ counts uri + cond (is_limited uri u) 1 0)
-      → (uri : List ℕ) → new uri ≡ limited_under (take (i + 1) unread) uri
+      → ((uri : List ℕ) → new uri ≡ counts uri + cond (is_left why uri u) 1 0)
+      → (uri : List ℕ) → new uri ≡ left_under (take (i + 1) unread) why uri
   counts-next within u e new more uri =
       more uri ∙ ap (λ (n : ℕ). n + one u) (so-far uri)
-      ∙ ap (λ (v : Left Place). limited_under (take i unread) uri + one v) e
+      ∙ ap (λ (v : Left Place). left_under (take i unread) why uri + one v) e
       ∙ sym (sum_by_more one unread i u within)
     where
       one : Left Place → ℕ
-      one v = cond (is_limited uri v) 1 0
+      one v = cond (is_left why uri v) 1 0
 
 -- ---- refusing
 
@@ -121,12 +120,12 @@ keeps-both P Q R a b c p q split left right = record {
 }
 
 -- the refusals for those of these places, where so many are counted
-abbrev pub IsSeen : (List ℕ → ℕ) → List (Left Place) → Finding → Type 0
+abbrev pub IsSeen : (Why → List ℕ → ℕ) → List (Left Place) → Finding → Type 0
 IsSeen counts seen x = (u : Left Place) × Contains seen u × IsRefusalFor counts u x
 
 -- one place more is refused
-pub seen-next : (counts : List ℕ → ℕ) (unread : List (Left Place)) (i : ℕ) → i < length unread
-    → (u : Left Place) → u ≡ get_or unread i u → (first old new : Found)
+pub seen-next : (counts : Why → List ℕ → ℕ) (unread : List (Left Place)) (i : ℕ)
+    → i < length unread → (u : Left Place) → u ≡ get_or unread i u → (first old new : Found)
     → KeepsAll (IsSeen counts (take i unread)) first old → KeepsAll (IsRefusalFor counts u) old new
     → KeepsAll (IsSeen counts (take (i + 1) unread)) first new
 seen-next counts unread i within u e first old new before one = subst

@@ -20,10 +20,7 @@ pub mod Halves
 pub mod Revoking
 pub mod Objects
 pub mod Certificates
-pub mod Judging
 pub mod Putting
-pub mod Filing
-pub mod Pointing
 pub mod Meanings
 pub mod OneObject
 pub mod OneChild
@@ -31,6 +28,9 @@ pub mod Splits
 pub mod OnePoint
 pub mod Sameness
 pub mod OneTelling
+pub mod Judging
+pub mod Filing
+pub mod Pointing
 pub mod OneAnchor
 pub mod OneCost
 pub mod Publishing

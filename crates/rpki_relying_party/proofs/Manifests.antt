@@ -12,7 +12,7 @@ use Rattle.rpki_files.specs.Manifest.Uris.{uris_of}
 use Rattle.rpki_signed.specs.Check.{Checks}
 use Rattle.rpki_signed.specs.Exact.{IsExact}
 use Rattle.rpki_signed.specs.declared.check.CheckError.{CheckError}
-use Rattle.rpki_relying_party.specs.Costs.{ReadCosts, ReadStarts, found_cost}
+use Rattle.rpki_relying_party.specs.Costs.{ReadCosts, ReadStarts, found_cost, opening_cost}
 use Rattle.rpki_relying_party.specs.Lacks.{IsFirstRepeated, WhyNoManifest, WhyNoManifestOf}
 use Rattle.rpki_relying_party.specs.Lacks.{manifest_checks}
 use Rattle.rpki_relying_party.specs.Memory.{IsCheckMemory}
@@ -41,24 +41,24 @@ fault-of now manifest fault (inl k) = elim (k.1) [
 module _ (s : Setting) (ca : Validated) (folder uri : List ℕ) (old new : ℕ) where
   -- what comes of looking for it
   abbrev pub IsLooked : Result Checked Stop → Type 0
-  IsLooked r = IsOutcome (ReadStarts s uri)
+  IsLooked r = IsOutcome (ReadStarts s opening_cost uri)
       (λ m n. IsManifestAt s ca folder uri m.signer.cert.certificate m.content
-      × ReadCosts s uri n)
-      (λ cause n. WhyNoManifestOf s ca folder uri cause × ReadCosts s uri n) old new r
+      × ReadCosts s opening_cost uri n)
+      (λ cause n. WhyNoManifestOf s ca folder uri cause × ReadCosts s opening_cost uri n) old new r
 
   -- the first step stops
   pub unread : {T : Type 0} (Yes : T → ℕ → Type 0) (stop : Stop)
-      → IsOutcome (ReadStarts s uri) Yes (λ cause n. ⊥) old new (Err stop) → IsLooked (Err stop)
-  unread Yes stop h = outcome-stops {A = ReadStarts s uri} (ReadStarts s uri) (λ n c. c)
+      → IsOutcome (ReadStarts s opening_cost uri) Yes (λ cause n. ⊥) old new (Err stop) → IsLooked (Err stop)
+  unread Yes stop h = outcome-stops {A = ReadStarts s opening_cost uri} (ReadStarts s opening_cost uri) (λ n c. c)
       {V = λ cause n. ⊥} {W = λ cause n. WhyNoManifestOf s ca folder uri cause
-      × ReadCosts s uri n} (λ cause n w. absurd w) old new Yes
+      × ReadCosts s opening_cost uri n} (λ cause n w. absurd w) old new Yes
       (λ (m : Checked) n. IsManifestAt s ca folder uri m.signer.cert.certificate m.content
-      × ReadCosts s uri n) stop h
+      × ReadCosts s opening_cost uri n) stop h
 
   module _ (found : Result (List ℕ) NoFile)
-      (spends : Spends (λ n. s.finds uri found × (n ≡ found_cost found)) old new) where
+      (spends : Spends (λ n. s.finds uri found × (n ≡ found_cost opening_cost found)) old new) where
     -- what was found out, and what was spent then
-    spent : {Y : Type 0} → Y → Spends (λ n. Y × ReadCosts s uri n) old new
+    spent : {Y : Type 0} → Y → Spends (λ n. Y × ReadCosts s opening_cost uri n) old new
     spent y = (spends.0, (y, (found, spends.1.0, spends.1.1)), spends.2)
 
     pub no-manifest : (why : NoFile) → found ≡ Err why

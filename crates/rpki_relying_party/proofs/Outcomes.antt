@@ -1,6 +1,7 @@
 -- What comes of one step, and of a further one.
-use Rattle.std.proofs.Common.{◌≡◌, ℕ, ◌+◌, ◌<◌, Result, Ok, Err, sym, subst, arith}
-use Rattle.rpki_relying_party.specs.Outcome.{Spends, IsOutcome}
+use Rattle.std.proofs.Common.{◌≡◌, ℕ, ◌+◌, ◌<◌, List, ◌++◌, Result, Ok, Err, MatchResult}
+use Rattle.std.proofs.Common.{refl, sym, subst, arith}
+use Rattle.rpki_relying_party.specs.Outcome.{Spends, IsOutcome, Puts}
 use Rattle.rpki_relying_party.specs.declared.cause.Cause.{Cause}
 use Rattle.rpki_relying_party.specs.declared.cause.Stop.{Stop}
 use Rattle.rpki_relying_party.specs.declared.cause.Stop.TheVariants.{Room, Memory, Refused}
@@ -20,6 +21,25 @@ pub outcome-of-room : {T : Type 0} (Starts : ℕ → Type 0) (Yes : T → ℕ �
     → (stop ≡ Room) × (old < n) × (new ≡ old) → IsOutcome Starts Yes Why old new (Err stop)
 outcome-of-room Starts Yes Why n old new c stop h =
     subst (λ (s : Stop). IsOutcome Starts Yes Why old new (Err s)) (sym (h.0)) (n, c, h.1)
+
+-- nor for what is put
+pub puts-of-room : {X : Type 0} (cost : ℕ) (put old new : List X) (room left : ℕ) (stop : Stop)
+    → (stop ≡ Room) × (room < cost) × (left ≡ room) → Puts cost put old new room left (Err stop)
+puts-of-room cost put old new room left stop h = outcome-of-room (λ n. n ≡ cost)
+    (λ (_ : Unit {0}) n. (new ≡ old ++ put) × (n ≡ cost)) (λ cause n. ⊥) cost room left refl stop h
+
+-- where it is done A holds, and so does B
+pub done-as : {T E A B : Type 0} (P : E → Type 0) (r : Result T E) → (A → B)
+    → MatchResult r (λ _. A) P → MatchResult r (λ _. B) P
+done-as P (Ok x) f a = f a
+done-as P (Err e) f a = a
+
+-- memory ran out
+pub outcome-of-memory : {T : Type 0} (Starts : ℕ → Type 0) (Yes : T → ℕ → Type 0)
+    (Why : Cause → ℕ → Type 0) (old new : ℕ) (stop : Stop) → stop ≡ Memory
+    → IsOutcome Starts Yes Why old new (Err stop)
+outcome-of-memory Starts Yes Why old new stop e =
+    subst (λ (s : Stop). IsOutcome Starts Yes Why old new (Err s)) (sym e) tt
 
 -- Some first steps that cost A cost C.
 module _ {A : ℕ → Type 0} (C : ℕ → Type 0) (starts : (n : ℕ) → A n → C n)

@@ -12,6 +12,7 @@ use Rattle.rpki_files.specs.Manifest.Uris.{UriAndHash, uris_of}
 use Rattle.rpki_relying_party.specs.Costs.{ReadCosts, ReadStarts, ListCosts, ListStarts, FilesCost}
 use Rattle.rpki_relying_party.specs.Costs.{FilesLost, FilesStart, ListedCosts, ListedStarts}
 use Rattle.rpki_relying_party.specs.Costs.{PointCosts, PointStarts, PlaceCosts, PlaceExceeds}
+use Rattle.rpki_relying_party.specs.Costs.{opening_cost}
 use Rattle.rpki_relying_party.specs.Lacks.{WhyNoManifestOf, WhyNoList, WhyNoFiles, WhyNoPoint}
 use Rattle.rpki_relying_party.specs.Outcome.{Spends, IsOutcome, AppendsBoth}
 use Rattle.rpki_relying_party.specs.Point.{Point, IsManifestAt, IsListAt, PublishesIn}
@@ -44,7 +45,7 @@ put-to-none {X} {Y} P old new old2 new2 e e2 h =
     (sym (h.appends2 ∙ ap (λ (l : List Y). l ++ h.put2) e2)) h.holds)
 
 -- a read costs something
-read-some : (s : Setting) (uri : List ℕ) (n : ℕ) → ReadCosts s uri n → 0 < n
+read-some : (s : Setting) (uri : List ℕ) (n : ℕ) → ReadCosts s opening_cost uri n → 0 < n
 read-some s uri n (Ok octets, f, e) = omega (arith, e)
 read-some s uri n (Err why, f, e) = omega (arith, e)
 
@@ -62,16 +63,16 @@ module _ (s : Setting) (place : Place) (folder uri : List ℕ) where
         (stop : Stop) → IsOutcome (ListStarts s folder signer manifest) Yes
         (λ cause n. WhyNoList s place.ca folder signer manifest cause
         × ListCosts s folder signer manifest n) old new (Err stop)
-        → IsOutcome (ListedStarts s place.ca folder signer manifest) Yes2
+        → IsOutcome (ListedStarts s place.ca folder uri signer manifest) Yes2
         (λ cause n. WhyNoPoint s place.ca folder uri cause
-        × ListedCosts s place.ca folder signer manifest n) old new (Err stop)
+        × ListedCosts s place.ca folder uri signer manifest n) old new (Err stop)
     no-list Yes Yes2 old new stop h =
         outcome-stops {A = ListStarts s folder signer manifest}
-        (ListedStarts s place.ca folder signer manifest) (λ n c. inl c)
+        (ListedStarts s place.ca folder uri signer manifest) (λ n c. inl c)
         {V = λ cause n. WhyNoList s place.ca folder signer manifest cause
         × ListCosts s folder signer manifest n}
         {W = λ cause n. WhyNoPoint s place.ca folder uri cause
-        × ListedCosts s place.ca folder signer manifest n}
+        × ListedCosts s place.ca folder uri signer manifest n}
         (λ cause n w. (inr (signer, manifest, is_at, inl (w.0)), inl ((cause, w.0), w.1)))
         old new Yes Yes2 stop h
 
@@ -92,33 +93,34 @@ module _ (s : Setting) (place : Place) (folder uri : List ℕ) where
           → Spends (λ n. IsListAt s place.ca folder signer manifest list_uri list
           × ListCosts s folder signer manifest n) old mid
           → (r : Result (Unit {0}) Stop)
-          → IsOutcome (FilesStart s place.ca list_uri list files)
+          → IsOutcome (FilesStart s place.ca list_uri list uri files)
           (λ _ n. AppendsBoth (FilesTell s place.ca list_uri list until uri files) said said2
-          children children2 × FilesCost s place.ca list_uri list files n)
+          children children2 × FilesCost s place.ca list_uri list uri files n)
           (λ cause n. WhyNoFiles s files list_uri cause
-          × FilesLost s place.ca list_uri list files n) mid new r
-          → IsOutcome (ListedStarts s place.ca folder signer manifest)
+          × FilesLost s place.ca list_uri list uri files n) mid new r
+          → IsOutcome (ListedStarts s place.ca folder uri signer manifest)
           (λ _ n. AppendsBoth (PointTells s place folder uri) said said2 children children2
-          × ListedCosts s place.ca folder signer manifest n)
+          × ListedCosts s place.ca folder uri signer manifest n)
           (λ cause n. WhyNoPoint s place.ca folder uri cause
-          × ListedCosts s place.ca folder signer manifest n) old new r
+          × ListedCosts s place.ca folder uri signer manifest n) old new r
       files-read said said2 children children2 old mid new first r h =
           outcome-then {F = λ n. IsListAt s place.ca folder signer manifest list_uri list
-          × ListCosts s folder signer manifest n} {B = FilesStart s place.ca list_uri list files}
-          (ListedStarts s place.ca folder signer manifest)
+          × ListCosts s folder signer manifest n}
+          {B = FilesStart s place.ca list_uri list uri files}
+          (ListedStarts s place.ca folder uri signer manifest)
           (λ a b l c. inr (list_uri, list, a, b, l.0, l.1, c, refl))
           {V = λ cause n. WhyNoFiles s files list_uri cause
-          × FilesLost s place.ca list_uri list files n}
+          × FilesLost s place.ca list_uri list uri files n}
           (λ cause n. WhyNoPoint s place.ca folder uri cause
-          × ListedCosts s place.ca folder signer manifest n)
+          × ListedCosts s place.ca folder uri signer manifest n)
           (λ cause a b l w. (
             inr (signer, manifest, is_at, inr (list_uri, list, l.0, w.0)),
             inr (list_uri, list, a, b, l.0, l.1, inr (w.1), refl),
           )) old mid new first
           {Y = λ _ n. AppendsBoth (FilesTell s place.ca list_uri list until uri files) said said2
-          children children2 × FilesCost s place.ca list_uri list files n}
+          children children2 × FilesCost s place.ca list_uri list uri files n}
           (λ _ n. AppendsBoth (PointTells s place folder uri) said said2 children children2
-          × ListedCosts s place.ca folder signer manifest n)
+          × ListedCosts s place.ca folder uri signer manifest n)
           (λ _ a b l t. (
             put-as (FilesTell s place.ca list_uri list until uri files)
                 (PointTells s place folder uri) said said2 children children2
@@ -142,13 +144,14 @@ module _ (s : Setting) (place : Place) (folder uri : List ℕ) where
   -- what is spent on the manifest and after it is spent on the point
   pub point-read : (signer : Certificate) (manifest : Manifest) (said said2 : List Finding)
       (children children2 : List Place) (old mid new : ℕ)
-      → Spends (λ n. IsManifestAt s place.ca folder uri signer manifest × ReadCosts s uri n) old mid
+      → Spends (λ n. IsManifestAt s place.ca folder uri signer manifest
+      × ReadCosts s opening_cost uri n) old mid
       → (r : Result (Unit {0}) Stop)
-      → IsOutcome (ListedStarts s place.ca folder signer manifest)
+      → IsOutcome (ListedStarts s place.ca folder uri signer manifest)
       (λ _ n. AppendsBoth (PointTells s place folder uri) said said2 children children2
-      × ListedCosts s place.ca folder signer manifest n)
+      × ListedCosts s place.ca folder uri signer manifest n)
       (λ cause n. WhyNoPoint s place.ca folder uri cause
-      × ListedCosts s place.ca folder signer manifest n) mid new r
+      × ListedCosts s place.ca folder uri signer manifest n) mid new r
       → IsOutcome (PointStarts s place.ca folder uri)
       (λ _ n. AppendsBoth (PointTells s place folder uri) said said2 children children2
       × PointCosts s place.ca folder uri n)
@@ -156,31 +159,32 @@ module _ (s : Setting) (place : Place) (folder uri : List ℕ) where
       × PointCosts s place.ca folder uri n) old new r
   point-read signer manifest said said2 children children2 old mid new first r h =
       outcome-then
-      {F = λ n. IsManifestAt s place.ca folder uri signer manifest × ReadCosts s uri n}
-      {B = ListedStarts s place.ca folder signer manifest} (PointStarts s place.ca folder uri)
+      {F = λ n. IsManifestAt s place.ca folder uri signer manifest × ReadCosts s opening_cost uri n}
+      {B = ListedStarts s place.ca folder uri signer manifest} (PointStarts s place.ca folder uri)
       (λ a b m c. inr (signer, manifest, a, b, m.0, m.1, c, refl))
       {V = λ cause n. WhyNoPoint s place.ca folder uri cause
-      × ListedCosts s place.ca folder signer manifest n}
+      × ListedCosts s place.ca folder uri signer manifest n}
       (λ cause n. WhyNoPoint s place.ca folder uri cause
       × PointCosts s place.ca folder uri n)
       (λ cause a b m w. (w.0, inr (signer, manifest, a, b, m.0, m.1, w.1, refl))) old mid new first
       {Y = λ _ n. AppendsBoth (PointTells s place folder uri) said said2 children children2
-      × ListedCosts s place.ca folder signer manifest n}
+      × ListedCosts s place.ca folder uri signer manifest n}
       (λ _ n. AppendsBoth (PointTells s place folder uri) said said2 children children2
       × PointCosts s place.ca folder uri n)
       (λ _ a b m t. (t.0, inr (signer, manifest, a, b, m.0, m.1, t.1, refl))) r h
 
   -- there is no manifest
   pub no-manifest : {T U : Type 0} (Yes : T → ℕ → Type 0) (Yes2 : U → ℕ → Type 0) (old new : ℕ)
-      (stop : Stop) → IsOutcome (ReadStarts s uri) Yes
-      (λ cause n. WhyNoManifestOf s place.ca folder uri cause × ReadCosts s uri n) old new
-      (Err stop)
+      (stop : Stop) → IsOutcome (ReadStarts s opening_cost uri) Yes
+      (λ cause n. WhyNoManifestOf s place.ca folder uri cause × ReadCosts s opening_cost uri n) old
+      new (Err stop)
       → IsOutcome (PointStarts s place.ca folder uri) Yes2
       (λ cause n. WhyNoPoint s place.ca folder uri cause
       × PointCosts s place.ca folder uri n) old new (Err stop)
   no-manifest Yes Yes2 old new stop h =
-      outcome-stops {A = ReadStarts s uri} (PointStarts s place.ca folder uri) (λ n c. inl c)
-      {V = λ cause n. WhyNoManifestOf s place.ca folder uri cause × ReadCosts s uri n}
+      outcome-stops {A = ReadStarts s opening_cost uri} (PointStarts s place.ca folder uri)
+      (λ n c. inl c)
+      {V = λ cause n. WhyNoManifestOf s place.ca folder uri cause × ReadCosts s opening_cost uri n}
       {W = λ cause n. WhyNoPoint s place.ca folder uri cause
       × PointCosts s place.ca folder uri n}
       (λ cause n w. (inl (w.0), inl ((cause, w.0), w.1))) old new Yes Yes2 stop h

@@ -1,6 +1,5 @@
 -- What is put at the ends of two lists.
-use Rattle.std.proofs.Common.{◌≡◌, List, [], ◌∷◌, ◌++◌, Result, Ok, Err, sym}
-use Rattle.std.specs.Prelude.{IfOk}
+use Rattle.std.proofs.Common.{◌≡◌, List, [], ◌∷◌, ◌++◌, sym}
 use Rattle.std.proofs.lemmas.List.{append-nil}
 use Rattle.rpki_relying_party.specs.Outcome.{AppendsBoth}
 
@@ -36,26 +35,6 @@ module _ {X Y : Type 0} (P : List X → List Y → Type 0) where
     appends = sym (append-nil xs);
     appends2 = e;
   }
-
-  module _ {T E : Type 0} (old new put : List X) (ys : List Y) (r : Result T E) where
-    pub first-put-if : P put [] → IfOk r (λ _. new ≡ old ++ put)
-        → IfOk r (λ _. AppendsBoth P old new ys ys)
-    first-put-if h e = of r e
-      where
-        of : (r : Result T E) → IfOk r (λ _. new ≡ old ++ put)
-            → IfOk r (λ _. AppendsBoth P old new ys ys)
-        of (Ok d) e = first-put old new put ys h e
-        of (Err d) e = tt
-
-    -- unless memory ran out
-    pub first-put-unless : {M : Type 0} → ((¬ M) → P put []) → IfOk r (λ _. ¬ M)
-        → IfOk r (λ _. new ≡ old ++ put) → IfOk r (λ _. AppendsBoth P old new ys ys)
-    first-put-unless {M} h m e = of r m e
-      where
-        of : (r : Result T E) → IfOk r (λ _. ¬ M) → IfOk r (λ _. new ≡ old ++ put)
-            → IfOk r (λ _. AppendsBoth P old new ys ys)
-        of (Ok d) m e = first-put old new put ys (h m) e
-        of (Err d) m e = tt
 
 -- what is put where P holds is put where Q does
 pub put-as : {X Y : Type 0} (P Q : List X → List Y → Type 0) (old new : List X)

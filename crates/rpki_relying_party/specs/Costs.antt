@@ -1,21 +1,24 @@
 -- How much work it is to read a publication point: the files that are looked for, the octets that
--- are read, and what the places take that wait.
-use Rattle.std.specs.Prelude.{◌≡◌, ◌⊎◌, ℕ, ◌+◌, ◌*◌, ◌<◌, List, [], ◌∷◌, ◌++◌, length, Result}
+-- are read, and what a run holds of them then.
+use Rattle.std.specs.Prelude.{◌≡◌, ◌⊎◌, ℕ, ◌+◌, ◌*◌, ◌/◌, ◌<◌, List, [], ◌∷◌, ◌++◌, length, Result}
 use Rattle.std.specs.Prelude.{Ok, Err}
 use Rattle.rpki_crls.specs.Crl.{RevocationList}
 use Rattle.rpki_certs.specs.Cert.{Certificate}
 use Rattle.rpki_certs.specs.Validate.{Validated}
 use Rattle.rpki_files.specs.Manifest.{Manifest}
 use Rattle.rpki_files.specs.Manifest.Uris.{UriAndHash, uris_of}
+use Rattle.rpki_routes.specs.Aspa.{Aspa}
+use Rattle.rpki_routes.specs.Roa.{Roa, addresses}
 use Rattle.rpki_relying_party.specs.Kind.{kind_of}
 use Rattle.rpki_relying_party.specs.Lacks.{IsLostFile, WhyNoManifestOf, WhyNoList}
 use Rattle.rpki_relying_party.specs.Point.{Has, IsManifestAt, IsListFile, IsListAt, PublishesIn}
 use Rattle.rpki_relying_party.specs.Point.{NamesManifest}
 use Rattle.rpki_relying_party.specs.Setting.{Setting}
-use Rattle.rpki_relying_party.specs.Tells.{HasCa, NamesNoPoint}
+use Rattle.rpki_relying_party.specs.Tells.{HasRoa, HasAspa, HasCa, NamesNoPoint}
 use Rattle.rpki_relying_party.specs.declared.cause.Cause.{Cause}
 use Rattle.rpki_relying_party.specs.declared.copy.NoFile.{NoFile}
-use Rattle.rpki_relying_party.specs.declared.kind.ListedKind.TheVariants.{Ca}
+use Rattle.rpki_relying_party.specs.declared.kind.ListedKind.{ListedKind}
+use Rattle.rpki_relying_party.specs.declared.kind.ListedKind.TheVariants as kinds
 use Rattle.rpki_relying_party.specs.declared.place.Place.{Place}
 
 -- ---- what one thing costs
@@ -24,98 +27,133 @@ use Rattle.rpki_relying_party.specs.declared.place.Place.{Place}
 abbrev pub opening_cost : ℕ
 opening_cost = 1024
 
--- what was found for a URI: that it was looked for, and one for each octet
-abbrev pub found_cost : Result (List ℕ) NoFile → ℕ
-found_cost (Ok octets) = opening_cost + length octets
-found_cost (Err why) = opening_cost
+-- how many blocks the three sets of a CA have
+abbrev pub blocks_of : Validated → ℕ
+blocks_of v = length v.sets.as_numbers + (length v.sets.v4 + length v.sets.v6)
 
--- what a place takes that waits: 16,384, and 64 for each block of its sets
-abbrev pub waiting_cost : Validated → ℕ
-waiting_cost v = 16384 + 64 * (length v.sets.as_numbers + (length v.sets.v4 + length v.sets.v6))
+-- To look for a file that a CA lists, whose manifest has the first of these URIs, and the file the
+-- second. A certificate that inherits copies the sets of the CA, and a refusal holds both URIs.
+abbrev pub listing_cost : Validated → List ℕ → List ℕ → ℕ
+listing_cost ca under uri =
+    opening_cost + blocks_of ca / 8 + 16 * (length uri + length under)
+
+-- what was found for a URI: this price for looking for it, and one for each octet
+abbrev pub found_cost : ℕ → Result (List ℕ) NoFile → ℕ
+found_cost price (Ok octets) = price + length octets
+found_cost price (Err why) = price
+
+-- what a payload takes, with the URI of the object that says it
+abbrev pub payload_cost : ℕ
+payload_cost = 2048
+
+-- what a place takes that waits: 16,384, and 8 for each octet of its certificate and 1,024 for each
+-- block of its sets
+abbrev pub waiting_cost : List ℕ → Validated → ℕ
+waiting_cost octets v = 16384 + 8 * length octets + 1024 * blocks_of v
 
 -- ---- what is spent, and what on some first steps
 
--- What a read of a URI costs.
-abbrev pub ReadCosts : Setting → List ℕ → ℕ → Type 0
-ReadCosts s uri n = (found : Result (List ℕ) NoFile) × s.finds uri found × (n ≡ found_cost found)
+-- What a read of a URI costs, at this price for looking for it.
+abbrev pub ReadCosts : Setting → ℕ → List ℕ → ℕ → Type 0
+ReadCosts s price uri n =
+    (found : Result (List ℕ) NoFile) × s.finds uri found × (n ≡ found_cost price found)
 
 -- What some first steps of it cost: that the file is looked for, or all.
-abbrev pub ReadStarts : Setting → List ℕ → ℕ → Type 0
-ReadStarts s uri n = (n ≡ opening_cost) ⊎ ReadCosts s uri n
+abbrev pub ReadStarts : Setting → ℕ → List ℕ → ℕ → Type 0
+ReadStarts s price uri n = (n ≡ price) ⊎ ReadCosts s price uri n
 
--- The octets of the file with this URI are the certificate of a CA with these numbers.
-abbrev pub HoldsCa : Setting → Validated → RevocationList → List ℕ → List ℕ → Validated → Type 0
-HoldsCa s ca list uri octets v = (kind_of uri ≡ Ca) × HasCa s ca list octets v
+-- What is spent on the one thing that is there: what it costs, or nothing where there is none.
+abbrev pub CostsOf : {X : Type 0} → (X → Type 0) → (X → ℕ) → ℕ → Type 0
+CostsOf {X} Is cost n = ((x : X) × Is x × (n ≡ cost x)) ⊎ (((x : X) → ¬ Is x) × (n ≡ 0))
 
--- What is spent on the place that the octets of a file hold: nothing where they hold none.
-abbrev pub ChildCosts : Setting → Validated → RevocationList → List ℕ → List ℕ → ℕ → Type 0
-ChildCosts s ca list uri octets n =
-    ((v : Validated) × HoldsCa s ca list uri octets v × (n ≡ waiting_cost v))
-    ⊎ (((v : Validated) → ¬ HoldsCa s ca list uri octets v) × (n ≡ 0))
+-- What is spent on what the octets of a file of this kind tell, which the run holds then: on each
+-- payload of a good ROA or ASPA, and on the place of a good CA.
+abbrev pub HeldCosts : Setting → Validated → RevocationList → ListedKind → List ℕ → ℕ → Type 0
+HeldCosts s ca list kinds.Roa octets n =
+    CostsOf (λ (o : Certificate × Roa). HasRoa s ca list octets (o.0) (o.1))
+    (λ o. payload_cost * length (addresses (o.1))) n
+HeldCosts s ca list kinds.Aspa octets n =
+    CostsOf (λ (o : Certificate × Aspa). HasAspa s ca list octets (o.0) (o.1))
+    (λ o. payload_cost * length o.1.providers) n
+HeldCosts s ca list kinds.Ca octets n =
+    CostsOf (HasCa s ca list octets) (waiting_cost octets) n
+HeldCosts s ca list kinds.Other octets n = n ≡ 0
 
--- What is spent on a listed file that the copy has: on its octets, and on the place that they hold.
-abbrev pub JudgedCosts : Setting → Validated → RevocationList → UriAndHash → ℕ → Type 0
-JudgedCosts s ca list file n = (octets : List ℕ) × (m : ℕ) × Has s file octets
-    × ChildCosts s ca list (file.0) octets m × (n ≡ found_cost (Ok octets) + m)
+-- What is spent on a file that the manifest under this URI lists, and that the copy has: on its
+-- octets, and on what they tell.
+abbrev pub JudgedCosts : Setting → Validated → RevocationList → List ℕ → UriAndHash → ℕ → Type 0
+JudgedCosts s ca list under file n = (octets : List ℕ) × (m : ℕ) × Has s file octets
+    × HeldCosts s ca list (kind_of (file.0)) octets m
+    × (n ≡ found_cost (listing_cost ca under (file.0)) (Ok octets) + m)
 
 -- What is spent on a listed file that is there. On the revocation list, which has the first of
 -- these URIs, nothing is spent: it was read before.
-abbrev pub FileCosts : Setting → Validated → List ℕ → RevocationList → UriAndHash → ℕ → Type 0
-FileCosts s ca list_uri list file n =
-    ((file.0 ≡ list_uri) × (n ≡ 0)) ⊎ ((¬ (file.0 ≡ list_uri)) × JudgedCosts s ca list file n)
+abbrev pub FileCosts : Setting → Validated → List ℕ → RevocationList → List ℕ → UriAndHash → ℕ
+    → Type 0
+FileCosts s ca list_uri list under file n = ((file.0 ≡ list_uri) × (n ≡ 0))
+    ⊎ ((¬ (file.0 ≡ list_uri)) × JudgedCosts s ca list under file n)
 
 -- What is spent on some first steps with a listed file: on looking for it, on reading it, or on
 -- all.
-abbrev pub FileStarts : Setting → Validated → List ℕ → RevocationList → UriAndHash → ℕ → Type 0
-FileStarts s ca list_uri list file n =
-    (¬ (file.0 ≡ list_uri)) × (ReadStarts s (file.0) n ⊎ JudgedCosts s ca list file n)
+abbrev pub FileStarts : Setting → Validated → List ℕ → RevocationList → List ℕ → UriAndHash → ℕ
+    → Type 0
+FileStarts s ca list_uri list under file n = (¬ (file.0 ≡ list_uri))
+    × (ReadStarts s (listing_cost ca under (file.0)) (file.0) n
+    ⊎ JudgedCosts s ca list under file n)
 
 -- What is spent on a listed file that refuses the point.
-abbrev pub LostCosts : Setting → List ℕ → UriAndHash → ℕ → Type 0
-LostCosts s list_uri file n = (¬ (file.0 ≡ list_uri))
-    × ((cause : Cause) × IsLostFile s file cause) × ReadCosts s (file.0) n
+abbrev pub LostCosts : Setting → Validated → List ℕ → List ℕ → UriAndHash → ℕ → Type 0
+LostCosts s ca list_uri under file n = (¬ (file.0 ≡ list_uri))
+    × ((cause : Cause) × IsLostFile s file cause)
+    × ReadCosts s (listing_cost ca under (file.0)) (file.0) n
 
 -- What is spent on one file after the other, each of which is there.
-abbrev pub FilesCost : Setting → Validated → List ℕ → RevocationList → List UriAndHash → ℕ → Type 0
-FilesCost s ca list_uri list [] n = n ≡ 0
-FilesCost s ca list_uri list (file ∷ files) n = (a : ℕ) × (b : ℕ)
-    × FileCosts s ca list_uri list file a × FilesCost s ca list_uri list files b × (n ≡ a + b)
+abbrev pub FilesCost : Setting → Validated → List ℕ → RevocationList → List ℕ → List UriAndHash → ℕ
+    → Type 0
+FilesCost s ca list_uri list under [] n = n ≡ 0
+FilesCost s ca list_uri list under (file ∷ files) n = (a : ℕ) × (b : ℕ)
+    × FileCosts s ca list_uri list under file a × FilesCost s ca list_uri list under files b
+    × (n ≡ a + b)
 
 -- What is spent on some first files, each of which is there, and on the next one, so much.
 pub record FirstCost (s : Setting) (ca : Validated) (list_uri : List ℕ) (list : RevocationList)
-    (Next : UriAndHash → ℕ → Type 0) (files : List UriAndHash) (n : ℕ) : Type 0 where
+    (under : List ℕ) (Next : UriAndHash → ℕ → Type 0) (files : List UriAndHash) (n : ℕ)
+    : Type 0 where
   pub before : List UriAndHash
   pub file : UriAndHash
   pub after : List UriAndHash
   pub order : files ≡ before ++ file ∷ after
   pub first : ℕ
   pub next : ℕ
-  pub spent_first : FilesCost s ca list_uri list before first
+  pub spent_first : FilesCost s ca list_uri list under before first
   pub spent_next : Next file next
   pub sum : n ≡ first + next
 
 -- What is spent on the files of a manifest up to one that refuses the point.
-abbrev pub FilesLost : Setting → Validated → List ℕ → RevocationList → List UriAndHash → ℕ → Type 0
-FilesLost s ca list_uri list files n =
-    FirstCost s ca list_uri list (LostCosts s list_uri) files n
+abbrev pub FilesLost : Setting → Validated → List ℕ → RevocationList → List ℕ → List UriAndHash → ℕ
+    → Type 0
+FilesLost s ca list_uri list under files n =
+    FirstCost s ca list_uri list under (LostCosts s ca list_uri under) files n
 
 -- What is spent on some first files, and on some first steps with the next one.
-abbrev pub FilesStart : Setting → Validated → List ℕ → RevocationList → List UriAndHash → ℕ
+abbrev pub FilesStart : Setting → Validated → List ℕ → RevocationList → List ℕ → List UriAndHash → ℕ
     → Type 0
-FilesStart s ca list_uri list files n =
-    FirstCost s ca list_uri list (FileStarts s ca list_uri list) files n
+FilesStart s ca list_uri list under files n =
+    FirstCost s ca list_uri list under (FileStarts s ca list_uri list under) files n
 
 -- What is spent on the revocation list of a manifest: nothing, where its certificate names no
 -- listed file.
 abbrev pub ListCosts : Setting → List ℕ → Certificate → Manifest → ℕ → Type 0
 ListCosts s folder signer manifest n =
     (((file : UriAndHash) → ¬ IsListFile folder signer manifest file) × (n ≡ 0))
-    ⊎ ((file : UriAndHash) × IsListFile folder signer manifest file × ReadCosts s (file.0) n)
+    ⊎ ((file : UriAndHash) × IsListFile folder signer manifest file
+    × ReadCosts s opening_cost (file.0) n)
 
 -- What is spent on some first steps with the revocation list of a manifest.
 abbrev pub ListStarts : Setting → List ℕ → Certificate → Manifest → ℕ → Type 0
 ListStarts s folder signer manifest n =
-    (file : UriAndHash) × IsListFile folder signer manifest file × ReadStarts s (file.0) n
+    (file : UriAndHash) × IsListFile folder signer manifest file
+    × ReadStarts s opening_cost (file.0) n
 
 -- There is a revocation list, and so much is spent on it, and on the files after it.
 abbrev pub AfterList : Setting → Validated → List ℕ → Certificate → Manifest
@@ -125,39 +163,41 @@ AfterList s ca folder signer manifest Files n =
     × IsListAt s ca folder signer manifest list_uri list × ListCosts s folder signer manifest a
     × Files list_uri list (uris_of folder manifest.files) b × (n ≡ a + b)
 
--- What is spent after the manifest: on the revocation list, which is read first, and where there is
--- one, on the files.
-abbrev pub ListedCosts : Setting → Validated → List ℕ → Certificate → Manifest → ℕ → Type 0
-ListedCosts s ca folder signer manifest n =
+-- What is spent after the manifest, which has the second of these URIs: on the revocation list,
+-- which is read first, and where there is one, on the files.
+abbrev pub ListedCosts : Setting → Validated → List ℕ → List ℕ → Certificate → Manifest → ℕ → Type 0
+ListedCosts s ca folder under signer manifest n =
     (((cause : Cause) × WhyNoList s ca folder signer manifest cause)
     × ListCosts s folder signer manifest n)
     ⊎ AfterList s ca folder signer manifest (λ list_uri list files m.
-    FilesCost s ca list_uri list files m ⊎ FilesLost s ca list_uri list files m) n
+    FilesCost s ca list_uri list under files m ⊎ FilesLost s ca list_uri list under files m) n
 
 -- What is spent on some first steps after the manifest.
-abbrev pub ListedStarts : Setting → Validated → List ℕ → Certificate → Manifest → ℕ → Type 0
-ListedStarts s ca folder signer manifest n = ListStarts s folder signer manifest n
-    ⊎ AfterList s ca folder signer manifest (FilesStart s ca) n
+abbrev pub ListedStarts : Setting → Validated → List ℕ → List ℕ → Certificate → Manifest → ℕ
+    → Type 0
+ListedStarts s ca folder under signer manifest n = ListStarts s folder signer manifest n
+    ⊎ AfterList s ca folder signer manifest (λ list_uri list files m.
+    FilesStart s ca list_uri list under files m) n
 
 -- There is a manifest, and so much is spent on it, and after it.
 abbrev pub AfterManifest : Setting → Validated → List ℕ → List ℕ
     → (Certificate → Manifest → ℕ → Type 0) → ℕ → Type 0
 AfterManifest s ca folder uri Listed n =
     (signer : Certificate) × (manifest : Manifest) × (a : ℕ) × (b : ℕ)
-    × IsManifestAt s ca folder uri signer manifest × ReadCosts s uri a
+    × IsManifestAt s ca folder uri signer manifest × ReadCosts s opening_cost uri a
     × Listed signer manifest b × (n ≡ a + b)
 
 -- What is spent on the point in this folder, whose manifest has this URI: on the manifest, and
 -- where it is good and current, after it.
 abbrev pub PointCosts : Setting → Validated → List ℕ → List ℕ → ℕ → Type 0
 PointCosts s ca folder uri n =
-    (((cause : Cause) × WhyNoManifestOf s ca folder uri cause) × ReadCosts s uri n)
-    ⊎ AfterManifest s ca folder uri (ListedCosts s ca folder) n
+    (((cause : Cause) × WhyNoManifestOf s ca folder uri cause) × ReadCosts s opening_cost uri n)
+    ⊎ AfterManifest s ca folder uri (ListedCosts s ca folder uri) n
 
 -- What is spent on some first steps with the point in this folder, whose manifest has this URI.
 abbrev pub PointStarts : Setting → Validated → List ℕ → List ℕ → ℕ → Type 0
-PointStarts s ca folder uri n = ReadStarts s uri n
-    ⊎ AfterManifest s ca folder uri (ListedStarts s ca folder) n
+PointStarts s ca folder uri n = ReadStarts s opening_cost uri n
+    ⊎ AfterManifest s ca folder uri (ListedStarts s ca folder uri) n
 
 -- What is spent on a place: one, where its certificate names no point, and else on its point.
 abbrev pub OnPlace : Place → (List ℕ → List ℕ → ℕ → Type 0) → ℕ → Type 0

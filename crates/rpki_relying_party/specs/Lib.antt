@@ -14,6 +14,7 @@ pub mod Payload
 pub mod Tells
 pub mod Costs
 pub mod Outcome
+pub mod Judged
 pub mod Reading
 pub mod Texts
 pub mod Place

@@ -18,6 +18,13 @@ IsOutcome Starts Yes Why old new (Err Room) = (n : ℕ) × Starts n × (old < n)
 IsOutcome Starts Yes Why old new (Err Memory) = Unit {0}
 IsOutcome Starts Yes Why old new (Err (Refused cause)) = Spends (Why cause) old new
 
+-- These were put at the end of a list, at this cost; or there was too little room for it; or no
+-- memory.
+abbrev pub Puts : {X : Type 0} → ℕ → List X → List X → List X → ℕ → ℕ → Result (Unit {0}) Stop
+    → Type 0
+Puts cost put old new room left result = IsOutcome (λ n. n ≡ cost)
+    (λ _ n. (new ≡ old ++ put) × (n ≡ cost)) (λ cause n. ⊥) room left result
+
 -- These were put at the ends of two lists, and P holds of them.
 pub record AppendsBoth {X Y : Type 0} (P : List X → List Y → Type 0) (old new : List X)
     (old2 new2 : List Y) : Type 0 where

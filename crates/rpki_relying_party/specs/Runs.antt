@@ -23,6 +23,7 @@ use Rattle.rpki_relying_party.specs.declared.cause.Cause.{Cause}
 use Rattle.rpki_relying_party.specs.declared.cause.Cause.TheVariants as causes
 use Rattle.rpki_relying_party.specs.declared.found.Finding.{Finding}
 use Rattle.rpki_relying_party.specs.declared.found.Found.{Found}
+use Rattle.rpki_relying_party.specs.declared.locator.Counts.{Counts}
 use Rattle.rpki_relying_party.specs.declared.locator.RunFault.{RunFault}
 use Rattle.rpki_relying_party.specs.declared.locator.RunFault.TheVariants as faults
 use Rattle.rpki_relying_party.specs.declared.place.Place.{Place}
@@ -107,36 +108,37 @@ abbrev pub lister_of : Place → Option (List ℕ)
 lister_of p =
     option_or p.listed_by p.ca.cert.certificate.tbs.extensions.locations.subject.rpki_manifest
 
--- whether a place was left since no work was left for it
-abbrev pub is_limit : Why → Bool
-is_limit Limit = true
-is_limit Memory = false
+-- whether two places were left for the same
+abbrev pub is_same : Why → Why → Bool
+is_same Limit Limit = true
+is_same Memory Memory = true
+is_same why other = false
 
--- whether this CA listed the place, and no work was left for it
-abbrev pub is_limited : List ℕ → Left Place → Bool
-is_limited uri u = is_limit u.why && option_eq bytes_eq (lister_of u.place) (Some uri)
+-- whether this CA listed the place, which was left for this
+abbrev pub is_left : Why → List ℕ → Left Place → Bool
+is_left why uri u = is_same u.why why && option_eq bytes_eq (lister_of u.place) (Some uri)
 
--- how many places that this CA listed were left unread since no work was left
-abbrev pub limited_under : List (Left Place) → List ℕ → ℕ
-limited_under unread uri = count_by (is_limited uri) unread
+-- how many places that this CA listed were left for this
+abbrev pub left_under : List (Left Place) → Why → List ℕ → ℕ
+left_under unread why uri = count_by (is_left why uri) unread
 
--- why places are refused that were left for this, so many for the limit
+-- why places are refused, so many of which were left for this
 abbrev pub left_cause : Why → ℕ → Cause
 left_cause Limit count = causes.Limit count
-left_cause Memory count = causes.Memory
+left_cause Memory count = causes.Memory count
 
 -- The refusal for a place that was left unread: it stands for the CA that listed the place, and
--- says how many were left for the limit, if that is why, where these are the numbers.
-abbrev pub IsRefusalFor : (List ℕ → ℕ) → Left Place → Finding → Type 0
+-- says how many were left for the same, where these are the numbers.
+abbrev pub IsRefusalFor : (Why → List ℕ → ℕ) → Left Place → Finding → Type 0
 IsRefusalFor counts u x =
     (uri : List ℕ) × (lister_of u.place ≡ Some uri)
-    × (x ≡ refusal uri (left_cause u.why (counts uri)) uri)
+    × (x ≡ refusal uri (left_cause u.why (counts u.why uri)) uri)
 
--- The refusals for places that were left unread: for each CA that listed some, that so many were
--- left for the limit, or that there was no memory.
+-- The refusals for places that were left unread: for each CA that listed some, how many were left
+-- for the limit, and how many for want of memory.
 abbrev pub IsLeftRefusal : List (Left Place) → Finding → Type 0
 IsLeftRefusal unread x =
-    (u : Left Place) × Contains unread u × IsRefusalFor (limited_under unread) u x
+    (u : Left Place) × Contains unread u × IsRefusalFor (left_under unread) u x
 
 -- The findings of which P holds were put to what was found.
 pub record KeepsAll (P : Finding → Type 0) (old new : Found) : Type 0 where
@@ -150,3 +152,8 @@ pub record KeepsAll (P : Finding → Type 0) (old new : Found) : Type 0 where
 -- the number that is kept for a URI
 abbrev pub count_for : {Y : Type 0} → BTreeMap (String Y) ℕ → List ℕ → ℕ
 count_for counts uri = unwrap_or (get_by_text counts uri) 0
+
+-- the number of those that were left for this
+abbrev pub counted : Counts → Why → List ℕ → ℕ
+counted counts Limit uri = count_for counts.limit uri
+counted counts Memory uri = count_for counts.memory uri

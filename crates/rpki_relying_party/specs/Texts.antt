@@ -94,7 +94,9 @@ cause_text (causes.Certificate error) = certificate_fault_text error
 cause_text (causes.Limit count) =
     codes "not read: "
     ++ (decimal count ++ (codes " " ++ (word_of count ++ codes ", limit reached")))
-cause_text causes.Memory = codes "out of memory"
+cause_text (causes.Memory count) =
+    codes "not read: "
+    ++ (decimal count ++ (codes " " ++ (word_of count ++ codes ", out of memory")))
 
 -- the line of a refusal: URI: CAUSE (under CA)
 abbrev pub refusal_line : Refusal → List ℕ

@@ -63,8 +63,8 @@ pub enum Cause {
     Certificate(IssuerError),
     /// So many CAs below it were not read, because the limit was reached.
     Limit(u64),
-    /// There was not enough memory to read it.
-    Memory,
+    /// So many CAs below it were not read, because memory ran out.
+    Memory(u64),
 }
 
 impl fmt::Display for ManifestFault {
@@ -144,7 +144,10 @@ impl fmt::Display for Cause {
                 let word = word_of(*count);
                 write!(f, "not read: {count} {word}, limit reached")
             }
-            Cause::Memory => f.write_str("out of memory"),
+            Cause::Memory(count) => {
+                let word = word_of(*count);
+                write!(f, "not read: {count} {word}, out of memory")
+            }
         }
     }
 }

@@ -1,19 +1,20 @@
 //! What the files of a publication point tell.
 
-ghost use Rattle.std.specs.Prelude.{◌≡◌, ◌↔◌, ◌⊎◌, [], ◌∷◌, ◌++◌, IfOk, IsTrue};
+ghost use Rattle.std.specs.Prelude.{◌≡◌, ◌↔◌, ◌⊎◌, ◌*◌, [], ◌∷◌, ◌++◌, length, IfOk, IsTrue};
+ghost use Rattle.std.specs.Prelude.{MatchResult};
 ghost use Rattle.rpki_files.specs.Manifest.Uris.{uris_of};
-ghost use Rattle.rpki_relying_party.specs.Costs.{ReadCosts, ChildCosts, FileCosts, FileStarts};
-ghost use Rattle.rpki_relying_party.specs.Costs.{FilesCost, FilesLost, FilesStart};
+ghost use Rattle.rpki_routes.specs.Roa.{addresses};
+ghost use Rattle.rpki_relying_party.specs.Costs.{payload_cost};
+ghost use Rattle.rpki_relying_party.specs.Judged.{IsJudged, IsFileRead, AreFilesRead};
 ghost use Rattle.rpki_relying_party.specs.Kind.{kind_of};
-ghost use Rattle.rpki_relying_party.specs.Lacks.{WhyNoFiles, IsLostFile};
 ghost use Rattle.rpki_relying_party.specs.Memory.{IsCheckMemory, IsIssuerMemory};
-ghost use Rattle.rpki_relying_party.specs.Outcome.{IsOutcome, AppendsBoth};
+ghost use Rattle.rpki_relying_party.specs.Outcome.{Puts};
 ghost use Rattle.rpki_relying_party.specs.Passes.{setting};
 ghost use Rattle.rpki_relying_party.specs.Tells.{NamesPrefixesAlone, IsEntity, HasEntity};
-ghost use Rattle.rpki_relying_party.specs.Tells.{KindTells, FileTells, FilesTell, refusal};
 ghost use Rattle.rpki_relying_party.specs.Tells.{payload_said, origins_said, providers_said};
-ghost use Rattle.rpki_relying_party.specs.Tells.{child_of};
+ghost use Rattle.rpki_relying_party.specs.Tells.{child_of, refusal};
 ghost use Rattle.rpki_relying_party.specs.declared.cause.Cause.{Cause as Causes};
+ghost use Rattle.rpki_relying_party.specs.declared.cause.Stop.{Stop as Stops};
 ghost use Rattle.rpki_relying_party.specs.declared.kind.ListedKind.{ListedKind as Kinds};
 
 use crate::cause::{Cause, Stop};
@@ -25,7 +26,7 @@ use crate::memory::{is_check_memory, is_issuer_memory};
 use crate::pass::Pass;
 use crate::payload::{Held, Payload, origin_of, provider_of};
 use crate::place::{Place, cost_of, earlier};
-use crate::reader::{read_listed, spend};
+use crate::reader::{listing_cost, read_listed, spend};
 use crate::under::{aspa_under, ca_under, roa_under};
 use bytes::Bytes;
 use rpki_basics::{Crypto, Rsync, Time};
@@ -72,24 +73,27 @@ pub(crate) fn put_refusal(
     }
 }
 
-// A file is refused.
+// A file is refused, unless memory runs out.
 fn refuse(
     alloc: Global,
     uri: Rsync,
     cause: Cause,
     under: &Rsync,
     said: &mut Vec<Finding>,
-) -> Result<(), AllocError>
-    ensures { IfOk result (λ _. said.new.items
-        ≡ said.old.items ++ refusal uri cause under.now ∷ []) }
+) -> Result<(), Stop>
+    ensures { MatchResult result (λ _. said.new.items
+        ≡ said.old.items ++ refusal uri cause under.now ∷ []) (λ stop. stop ≡ Stops.Memory) }
 {
     match under.clone() {
-        Err(error) => {
+        Err(_) => {
             drop(uri);
             drop(cause);
-            Err(error)
+            Err(Stop::Memory)
         }
-        Ok(under) => put_refusal(alloc, Refusal { uri, cause, under }, said),
+        Ok(under) => match put_refusal(alloc, Refusal { uri, cause, under }, said) {
+            Err(_) => Err(Stop::Memory),
+            Ok(()) => Ok(()),
+        },
     }
 }
 
@@ -100,15 +104,16 @@ fn refuse_object(
     error: CheckError,
     under: &Rsync,
     said: &mut Vec<Finding>,
-) -> Result<(), AllocError>
+) -> Result<(), Stop>
     ensures memory { IfOk result (λ _. ¬ IsCheckMemory error) }
-    ensures refused { IfOk result (λ _. said.new.items
-        ≡ said.old.items ++ refusal uri (Causes.Object error) under.now ∷ []) }
+    ensures refused { MatchResult result (λ _. said.new.items
+        ≡ said.old.items ++ refusal uri (Causes.Object error) under.now ∷ [])
+        (λ stop. stop ≡ Stops.Memory) }
 {
     if is_check_memory(&error) {
         drop(uri);
         drop(error);
-        return Err(AllocError);
+        return Err(Stop::Memory);
     }
     refuse(alloc, uri, Cause::Object(error), under, said)
 }
@@ -122,8 +127,11 @@ fn names_prefixes_alone(cert: &Cert) -> bool
         && !cert.v6_resources().is_inherited()
 }
 
+// What a payload costs that is held.
+const PAYLOAD: u128 = 2048;
+
 // Puts a payload at the end of a list.
-fn put_payload(
+fn push_payload(
     payload: Payload,
     until: Time,
     uri: &Rsync,
@@ -137,18 +145,42 @@ fn put_payload(
     Ok(())
 }
 
+// Spends what a payload costs, and puts it at the end of a list.
+fn put_payload(
+    payload: Payload,
+    until: Time,
+    uri: &Rsync,
+    said: &mut Vec<Finding>,
+    room: &mut u64,
+) -> Result<(), Stop>
+    ensures { Puts payload_cost (payload_said until uri.now payload ∷ []) said.old.items
+        said.new.items room.old room.new result }
+{
+    if let Err(stop) = spend(room, PAYLOAD) {
+        return Err(stop);
+    }
+    match push_payload(payload, until, uri, said) {
+        Err(_) => Err(Stop::Memory),
+        Ok(()) => Ok(()),
+    }
+}
+
 // Puts each origin of a ROA, which holds until this moment, at the end of a list.
 fn put_origins(
     roa: &RouteOriginAttestation,
     until: Time,
     uri: &Rsync,
     said: &mut Vec<Finding>,
-) -> Result<(), AllocError>
-    ensures { IfOk result (λ _. said.new.items
-        ≡ said.old.items ++ origins_said until uri.now roa.now) }
+    room: &mut u64,
+) -> Result<(), Stop>
+    ensures { Puts (payload_cost * length (addresses roa.now)) (origins_said until uri.now roa.now)
+        said.old.items said.new.items room.old room.new result }
 {
     for origin in roa.iter_origins() {
-        put_payload(Payload::Origin(origin_of(&origin)), until, uri, said)?;
+        let payload = Payload::Origin(origin_of(&origin));
+        if let Err(stop) = put_payload(payload, until, uri, said, room) {
+            return Err(stop);
+        }
     }
     Ok(())
 }
@@ -159,18 +191,17 @@ fn put_providers(
     until: Time,
     uri: &Rsync,
     said: &mut Vec<Finding>,
-) -> Result<(), AllocError>
-    ensures { IfOk result (λ _. said.new.items
-        ≡ said.old.items ++ providers_said until uri.now aspa.now) }
+    room: &mut u64,
+) -> Result<(), Stop>
+    ensures { Puts (payload_cost * length aspa.now.providers) (providers_said until uri.now aspa.now)
+        said.old.items said.new.items room.old room.new result }
 {
     let customer = aspa.customer_as();
     for provider in aspa.provider_as_set().iter() {
-        put_payload(
-            Payload::Provider(provider_of(customer, provider)),
-            until,
-            uri,
-            said,
-        )?;
+        let payload = Payload::Provider(provider_of(customer, provider));
+        if let Err(stop) = put_payload(payload, until, uri, said, room) {
+            return Err(stop);
+        }
     }
     Ok(())
 }
@@ -183,40 +214,28 @@ fn process_roa<R: Repository, C: Crypto>(
     uri: Rsync,
     octets: Bytes,
     findings: &mut Findings,
-) -> Result<(), AllocError>
-    ensures { IfOk result (λ _. AppendsBoth (KindTells
-        (setting R.finds C.digest_of C.is_signed pass.now) above.now.ca.now
-        above.now.list.now.crl.list above.now.until above.now.manifest.now uri octets Kinds.Roa)
-        findings.old.said.items findings.new.said.items
-        findings.old.children.items findings.new.children.items) }
+    room: &mut u64,
+) -> Result<(), Stop>
+    ensures { IsJudged (setting R.finds C.digest_of C.is_signed pass.now) above.now.ca.now
+        above.now.list.now.crl.list above.now.until above.now.manifest.now uri octets Kinds.Roa
+        findings.old findings.new room.old room.new result }
 {
-    match roa_under(
-        alloc,
-        octets,
-        above.ca,
-        &above.list.crl,
-        pass.crypto,
-        pass.moment,
-    ) {
+    let crl = &above.list.crl;
+    match roa_under(alloc, octets, above.ca, crl, pass.crypto, pass.moment) {
         Err(error) => refuse_object(alloc, uri, error, above.manifest, &mut findings.said),
         Ok((cert, roa)) => {
             let until = earlier(above.until, cert.cert().validity().not_after());
             if names_prefixes_alone(cert.cert()) {
                 drop(cert);
-                let put = put_origins(&roa, until, &uri, &mut findings.said);
+                let put = put_origins(&roa, until, &uri, &mut findings.said, room);
                 drop(roa);
                 drop(uri);
                 return put;
             }
             drop(cert);
             drop(roa);
-            refuse(
-                alloc,
-                uri,
-                Cause::RoaCertificate,
-                above.manifest,
-                &mut findings.said,
-            )
+            let (cause, under) = (Cause::RoaCertificate, above.manifest);
+            refuse(alloc, uri, cause, under, &mut findings.said)
         }
     }
 }
@@ -229,14 +248,13 @@ fn process_aspa<R: Repository, C: Crypto>(
     uri: Rsync,
     octets: Bytes,
     findings: &mut Findings,
-) -> Result<(), AllocError>
-    ensures { IfOk result (λ _. AppendsBoth (KindTells
-        (setting R.finds C.digest_of C.is_signed pass.now) above.now.ca.now
-        above.now.list.now.crl.list above.now.until above.now.manifest.now uri octets Kinds.Aspa)
-        findings.old.said.items findings.new.said.items
-        findings.old.children.items findings.new.children.items) }
+    room: &mut u64,
+) -> Result<(), Stop>
+    ensures { IsJudged (setting R.finds C.digest_of C.is_signed pass.now) above.now.ca.now
+        above.now.list.now.crl.list above.now.until above.now.manifest.now uri octets Kinds.Aspa
+        findings.old findings.new room.old room.new result }
 {
-    let crl = &above.list.crl;
+    let (crl, limit) = (&above.list.crl, pass.providers);
     match aspa_under(
         alloc,
         octets,
@@ -244,13 +262,13 @@ fn process_aspa<R: Repository, C: Crypto>(
         crl,
         pass.crypto,
         pass.moment,
-        pass.providers,
+        limit,
     ) {
         Err(error) => refuse_object(alloc, uri, error, above.manifest, &mut findings.said),
         Ok((cert, aspa)) => {
             let until = earlier(above.until, cert.cert().validity().not_after());
             drop(cert);
-            let put = put_providers(&aspa, until, &uri, &mut findings.said);
+            let put = put_providers(&aspa, until, &uri, &mut findings.said, room);
             drop(aspa);
             drop(uri);
             put
@@ -292,23 +310,24 @@ fn refuse_cert(
     error: IssuerError,
     under: &Rsync,
     said: &mut Vec<Finding>,
-) -> Result<(), AllocError>
+) -> Result<(), Stop>
     ensures memory { IfOk result (λ _. ¬ IsIssuerMemory error) }
-    ensures said { IfOk result (λ _. (HasEntity octets × (said.new.items ≡ said.old.items))
+    ensures said { MatchResult result (λ _. (HasEntity octets × (said.new.items ≡ said.old.items))
         ⊎ ((¬ HasEntity octets) × (said.new.items
-        ≡ said.old.items ++ refusal uri (Causes.Certificate error) under.now ∷ []))) }
+        ≡ said.old.items ++ refusal uri (Causes.Certificate error) under.now ∷ [])))
+        (λ stop. stop ≡ Stops.Memory) }
 {
     if is_issuer_memory(&error) {
         drop(uri);
         drop(octets);
         drop(error);
-        return Err(AllocError);
+        return Err(Stop::Memory);
     }
     match is_entity(alloc, octets) {
-        Err(fault) => {
+        Err(_) => {
             drop(uri);
             drop(error);
-            Err(fault)
+            Err(Stop::Memory)
         }
         Ok(true) => {
             drop(uri);
@@ -320,7 +339,7 @@ fn refuse_cert(
 }
 
 // The certificate of a CA is that of a child.
-fn put_child(
+fn push_child(
     above: &Above<'_>,
     ca: ResourceCert,
     children: &mut Vec<Place>,
@@ -346,6 +365,27 @@ fn put_child(
     }
 }
 
+// Spends what a child costs, and puts it at the end of a list.
+fn put_child(
+    above: &Above<'_>,
+    ca: ResourceCert,
+    cost: u128,
+    children: &mut Vec<Place>,
+    room: &mut u64,
+) -> Result<(), Stop>
+    ensures { Puts cost (child_of above.now.until above.now.manifest.now ca ∷ [])
+        children.old.items children.new.items room.old room.new result }
+{
+    if let Err(stop) = spend(room, cost) {
+        drop(ca);
+        return Err(stop);
+    }
+    match push_child(above, ca, children) {
+        Err(_) => Err(Stop::Memory),
+        Ok(()) => Ok(()),
+    }
+}
+
 // A certificate is that of a child, or of an end entity, which is passed over, or it is refused.
 fn process_cert<R: Repository, C: Crypto>(
     alloc: Global,
@@ -356,48 +396,23 @@ fn process_cert<R: Repository, C: Crypto>(
     findings: &mut Findings,
     room: &mut u64,
 ) -> Result<(), Stop>
-    requires { kind_of uri ≡ Kinds.Ca }
-    ensures { IsOutcome (ChildCosts (setting R.finds C.digest_of C.is_signed pass.now)
-        above.now.ca.now above.now.list.now.crl.list uri octets)
-        (λ _ n. AppendsBoth (KindTells (setting R.finds C.digest_of C.is_signed pass.now)
-        above.now.ca.now above.now.list.now.crl.list above.now.until above.now.manifest.now uri
-        octets Kinds.Ca)
-        findings.old.said.items findings.new.said.items
-        findings.old.children.items findings.new.children.items
-        × ChildCosts (setting R.finds C.digest_of C.is_signed pass.now) above.now.ca.now
-        above.now.list.now.crl.list uri octets n)
-        (λ cause n. ⊥) room.old room.new result }
+    ensures { IsJudged (setting R.finds C.digest_of C.is_signed pass.now) above.now.ca.now
+        above.now.list.now.crl.list above.now.until above.now.manifest.now uri octets Kinds.Ca
+        findings.old findings.new room.old room.new result }
 {
     let copy = octets.clone()?;
-    match ca_under(
-        alloc,
-        copy,
-        above.ca,
-        &above.list.crl,
-        pass.crypto,
-        pass.moment,
-    ) {
+    let crl = &above.list.crl;
+    match ca_under(alloc, copy, above.ca, crl, pass.crypto, pass.moment) {
         Err(error) => {
             let under = above.manifest;
-            match refuse_cert(alloc, uri, octets, error, under, &mut findings.said) {
-                Err(_) => Err(Stop::Memory),
-                Ok(()) => Ok(()),
-            }
+            refuse_cert(alloc, uri, octets, error, under, &mut findings.said)
         }
         Ok(ca) => {
             drop(uri);
-            drop(octets);
             ca.is_resource_cert();
-            match spend(room, cost_of(&ca)) {
-                Err(stop) => {
-                    drop(ca);
-                    Err(stop)
-                }
-                Ok(()) => match put_child(above, ca, &mut findings.children) {
-                    Err(_) => Err(Stop::Memory),
-                    Ok(()) => Ok(()),
-                },
-            }
+            let cost = cost_of(&octets, &ca);
+            drop(octets);
+            put_child(above, ca, cost, &mut findings.children, room)
         }
     }
 }
@@ -412,26 +427,13 @@ fn process_read<R: Repository, C: Crypto>(
     findings: &mut Findings,
     room: &mut u64,
 ) -> Result<(), Stop>
-    ensures { IsOutcome (ChildCosts (setting R.finds C.digest_of C.is_signed pass.now)
-        above.now.ca.now above.now.list.now.crl.list uri octets)
-        (λ _ n. AppendsBoth (KindTells (setting R.finds C.digest_of C.is_signed pass.now)
-        above.now.ca.now above.now.list.now.crl.list above.now.until above.now.manifest.now uri
-        octets (kind_of uri))
-        findings.old.said.items findings.new.said.items
-        findings.old.children.items findings.new.children.items
-        × ChildCosts (setting R.finds C.digest_of C.is_signed pass.now) above.now.ca.now
-        above.now.list.now.crl.list uri octets n)
-        (λ cause n. ⊥) room.old room.new result }
+    ensures { IsJudged (setting R.finds C.digest_of C.is_signed pass.now) above.now.ca.now
+        above.now.list.now.crl.list above.now.until above.now.manifest.now uri octets (kind_of uri)
+        findings.old findings.new room.old room.new result }
 {
     match kind_of(uri.as_slice()) {
-        ListedKind::Roa => match process_roa(alloc, pass, above, uri, octets, findings) {
-            Err(_) => Err(Stop::Memory),
-            Ok(()) => Ok(()),
-        },
-        ListedKind::Aspa => match process_aspa(alloc, pass, above, uri, octets, findings) {
-            Err(_) => Err(Stop::Memory),
-            Ok(()) => Ok(()),
-        },
+        ListedKind::Roa => process_roa(alloc, pass, above, uri, octets, findings, room),
+        ListedKind::Aspa => process_aspa(alloc, pass, above, uri, octets, findings, room),
         ListedKind::Ca => process_cert(alloc, pass, above, uri, octets, findings, room),
         ListedKind::Other => {
             drop(uri);
@@ -457,19 +459,9 @@ fn process_file<R: Repository, C: Crypto>(
     findings: &mut Findings,
     room: &mut u64,
 ) -> Result<(), Stop>
-    ensures { IsOutcome (FileStarts (setting R.finds C.digest_of C.is_signed pass.now)
-        above.now.ca.now above.now.list.now.uri above.now.list.now.crl.list listed)
-        (λ _ n. AppendsBoth (FileTells (setting R.finds C.digest_of C.is_signed pass.now)
-        above.now.ca.now above.now.list.now.uri above.now.list.now.crl.list above.now.until
-        above.now.manifest.now listed)
-        findings.old.said.items findings.new.said.items
-        findings.old.children.items findings.new.children.items
-        × FileCosts (setting R.finds C.digest_of C.is_signed pass.now) above.now.ca.now
-        above.now.list.now.uri above.now.list.now.crl.list listed n)
-        (λ cause n. (¬ (listed.0 ≡ above.now.list.now.uri))
-        × IsLostFile (setting R.finds C.digest_of C.is_signed pass.now) listed cause
-        × ReadCosts (setting R.finds C.digest_of C.is_signed pass.now) listed.0 n)
-        room.old room.new result }
+    ensures { IsFileRead (setting R.finds C.digest_of C.is_signed pass.now) above.now.ca.now
+        above.now.list.now.uri above.now.list.now.crl.list above.now.until above.now.manifest.now
+        listed findings.old findings.new room.old room.new result }
 {
     let (uri, hash) = listed;
     if are_same(&uri, &above.list.uri) {
@@ -477,7 +469,8 @@ fn process_file<R: Repository, C: Crypto>(
         drop(hash);
         return Ok(());
     }
-    match read_listed(alloc, pass, &uri, &hash, room) {
+    let price = listing_cost(above.ca, above.manifest, &uri);
+    match read_listed(alloc, pass, &uri, &hash, price, room) {
         Err(stop) => {
             drop(uri);
             drop(hash);
@@ -500,23 +493,10 @@ pub(crate) fn process_files<'x, R: Repository, C: Crypto>(
     findings: &mut Findings,
     room: &mut u64,
 ) -> Result<(), Stop>
-    ensures { IsOutcome (FilesStart (setting R.finds C.digest_of C.is_signed pass.now)
-        above.now.ca.now above.now.list.now.uri above.now.list.now.crl.list
-        (uris_of folder.now manifest.now.files))
-        (λ _ n. AppendsBoth (FilesTell (setting R.finds C.digest_of C.is_signed pass.now)
-        above.now.ca.now above.now.list.now.uri above.now.list.now.crl.list above.now.until
-        above.now.manifest.now (uris_of folder.now manifest.now.files))
-        findings.old.said.items findings.new.said.items
-        findings.old.children.items findings.new.children.items
-        × FilesCost (setting R.finds C.digest_of C.is_signed pass.now) above.now.ca.now
-        above.now.list.now.uri above.now.list.now.crl.list
-        (uris_of folder.now manifest.now.files) n)
-        (λ cause n. WhyNoFiles (setting R.finds C.digest_of C.is_signed pass.now)
-        (uris_of folder.now manifest.now.files) above.now.list.now.uri cause
-        × FilesLost (setting R.finds C.digest_of C.is_signed pass.now) above.now.ca.now
-        above.now.list.now.uri above.now.list.now.crl.list
-        (uris_of folder.now manifest.now.files) n)
-        room.old room.new result }
+    ensures { AreFilesRead (setting R.finds C.digest_of C.is_signed pass.now) above.now.ca.now
+        above.now.list.now.uri above.now.list.now.crl.list above.now.until above.now.manifest.now
+        (uris_of folder.now manifest.now.files) findings.old findings.new room.old room.new
+        result }
 {
     let mut files = manifest.iter_uris(alloc, folder);
     while let Some(item) = files.next() {

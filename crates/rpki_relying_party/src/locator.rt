@@ -8,9 +8,11 @@ ghost use Rattle.rpki_relying_party.specs.Runs.{IsRunUnder, IsSaidUnder, FindsAl
 ghost use Rattle.rpki_relying_party.specs.Runs.{TellsSteadily, IsFaultOf};
 ghost use Rattle.rpki_relying_party.specs.Runs.{start_place, run_fault_text};
 ghost use Rattle.rpki_relying_party.specs.Runs.{IsLeftRefusal, IsRefusalFor, KeepsAll, lister_of};
-ghost use Rattle.rpki_relying_party.specs.Runs.{is_limited, limited_under, left_cause, count_for};
+ghost use Rattle.rpki_relying_party.specs.Runs.{is_same, is_left, left_under, left_cause};
+ghost use Rattle.rpki_relying_party.specs.Runs.{count_for, counted};
 ghost use Rattle.rpki_relying_party.specs.declared.found.Finding.{Finding};
 ghost use Rattle.rpki_relying_party.specs.declared.locator.RunFault.{RunFault as Fault};
+ghost use Rattle.rpki_relying_party.specs.declared.walk.Why.{Why as Reason};
 
 use crate::anchor::{AnchorFault, anchor_of};
 use crate::cause::Cause;
@@ -156,11 +158,34 @@ fn lister_of(place: &Place) -> Option<&Rsync>
     }
 }
 
-// So many places of each CA were left unread for the limit, by the URI of its manifest.
-type Counts = BTreeMap<String, u64>;
+// So many places of each CA were left unread, by the URI of its manifest.
+type ByUri = BTreeMap<String, u64>;
+
+// So many were left for the limit, and so many for want of memory.
+#[derive(Drop)]
+struct Counts {
+    limit: ByUri,
+    memory: ByUri,
+}
+
+// Whether two places were left for the same.
+fn is_same(why: Why, other: Why) -> bool
+    ensures { result ≡ is_same why other }
+{
+    match why {
+        Why::Limit => match other {
+            Why::Limit => true,
+            Why::Memory => false,
+        },
+        Why::Memory => match other {
+            Why::Limit => false,
+            Why::Memory => true,
+        },
+    }
+}
 
 // How many there are of a CA.
-fn count_for(counts: &Counts, uri: &Rsync) -> u64
+fn count_for(counts: &ByUri, uri: &Rsync) -> u64
     ensures { result ≡ count_for counts.now uri.now }
 {
     match counts.get(uri.as_str()) {
@@ -170,7 +195,7 @@ fn count_for(counts: &Counts, uri: &Rsync) -> u64
 }
 
 // Counts one more of a CA.
-fn count_one(alloc: Global, uri: &Rsync, counts: &mut Counts) -> Result<(), AllocError>
+fn count_one(alloc: Global, uri: &Rsync, counts: &mut ByUri) -> Result<(), AllocError>
     requires { count_for counts.now uri.now + 1 < 2 ^ 64 }
     ensures { OnOk result ((other : List ℕ) → count_for counts.new other
         ≡ count_for counts.old other + cond (bytes_eq uri.now other) 1 0) }
@@ -181,40 +206,55 @@ fn count_one(alloc: Global, uri: &Rsync, counts: &mut Counts) -> Result<(), Allo
     Ok(())
 }
 
-// Counts a place, if it was left unread for the limit.
-fn count_left(alloc: Global, left: &Unread<Place>, counts: &mut Counts) -> Result<(), AllocError>
+// Counts a place, if it was left unread for this.
+fn count_left(
+    alloc: Global,
+    left: &Unread<Place>,
+    why: Why,
+    counts: &mut ByUri,
+) -> Result<(), AllocError>
     requires { (uri : List ℕ) → count_for counts.now uri + 1 < 2 ^ 64 }
     ensures { OnOk result ((uri : List ℕ) → count_for counts.new uri
-        ≡ count_for counts.old uri + cond (is_limited uri left.now) 1 0) }
+        ≡ count_for counts.old uri + cond (is_left why uri left.now) 1 0) }
 {
-    match left.why {
-        Why::Memory => Ok(()),
-        Why::Limit => match lister_of(&left.place) {
-            None => Ok(()),
-            Some(uri) => count_one(alloc, uri, counts),
-        },
+    if !is_same(left.why, why) {
+        return Ok(());
+    }
+    match lister_of(&left.place) {
+        None => Ok(()),
+        Some(uri) => count_one(alloc, uri, counts),
     }
 }
 
-// Counts the places that were left unread for the limit, of each CA.
-fn count_all(alloc: Global, unread: &[Unread<Place>]) -> Result<Counts, AllocError>
+// Counts the places that were left unread for this, of each CA.
+fn count_why(alloc: Global, unread: &[Unread<Place>], why: Why) -> Result<ByUri, AllocError>
     ensures { IfOk result (λ counts. (uri : List ℕ)
-        → count_for counts uri ≡ limited_under unread.now uri) }
+        → count_for counts uri ≡ left_under unread.now why uri) }
 {
     let mut counts = BTreeMap::new(alloc);
     for left in unread {
-        count_left(alloc, left, &mut counts)?;
+        count_left(alloc, left, why, &mut counts)?;
     }
     Ok(counts)
 }
 
+// Counts the places that were left unread, of each CA.
+fn count_all(alloc: Global, unread: &[Unread<Place>]) -> Result<Counts, AllocError>
+    ensures { IfOk result (λ counts. (why : Reason) (uri : List ℕ)
+        → counted counts why uri ≡ left_under unread.now why uri) }
+{
+    let limit = count_why(alloc, unread, Why::Limit)?;
+    let memory = count_why(alloc, unread, Why::Memory)?;
+    Ok(Counts { limit, memory })
+}
+
 // Why places of a CA are refused, of which one was left for this.
 fn cause_for(counts: &Counts, uri: &Rsync, why: Why) -> Cause
-    ensures { result ≡ left_cause why (count_for counts.now uri.now) }
+    ensures { result ≡ left_cause why (counted counts.now why uri.now) }
 {
     match why {
-        Why::Limit => Cause::Limit(count_for(counts, uri)),
-        Why::Memory => Cause::Memory,
+        Why::Limit => Cause::Limit(count_for(&counts.limit, uri)),
+        Why::Memory => Cause::Memory(count_for(&counts.memory, uri)),
     }
 }
 
@@ -226,7 +266,7 @@ fn refuse_left(
     found: &mut Found,
 ) -> Result<(), AllocError>
     ensures { OnOk result
-        (KeepsAll (IsRefusalFor (count_for counts.now) left.now) found.old found.new) }
+        (KeepsAll (IsRefusalFor (counted counts.now) left.now) found.old found.new) }
 {
     match lister_of(&left.place) {
         None => Ok(()),
@@ -239,8 +279,8 @@ fn refuse_left(
 }
 
 /// Puts to what was found, for each CA that listed places which were left unread, how many were
-/// left for the limit, and that there was no memory, where some were left for that. A trust anchor
-/// stands for itself. Where memory runs out nothing is known of `found`.
+/// left for the limit, and how many for want of memory. A trust anchor stands for itself. Where
+/// memory runs out nothing is known of `found`.
 pub fn refuse_unread(
     alloc: Global,
     unread: &[Unread<Place>],

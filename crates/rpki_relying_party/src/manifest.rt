@@ -10,7 +10,7 @@ ghost use Rattle.rpki_files.specs.Manifest.Checks.{manifest_kind};
 ghost use Rattle.rpki_files.specs.Manifest.Uris.{uris_of};
 ghost use Rattle.rpki_signed.specs.Check.{Checks};
 ghost use Rattle.rpki_signed.specs.Exact.{IsExact};
-ghost use Rattle.rpki_relying_party.specs.Costs.{ReadCosts, ReadStarts};
+ghost use Rattle.rpki_relying_party.specs.Costs.{ReadCosts, ReadStarts, opening_cost};
 ghost use Rattle.rpki_relying_party.specs.Lacks.{IsFirstRepeated, WhyNoManifestOf, manifest_checks};
 ghost use Rattle.rpki_relying_party.specs.Memory.{IsCheckMemory};
 ghost use Rattle.rpki_relying_party.specs.Outcome.{IsOutcome};
@@ -25,7 +25,7 @@ use crate::cause::{Cause, ManifestFault, Stop};
 use crate::copy::Repository;
 use crate::memory::is_check_memory;
 use crate::pass::Pass;
-use crate::reader::read_file;
+use crate::reader::{OPENING, read_file};
 use bytes::Bytes;
 use rpki_basics::{Crypto, ManifestRule, Rsync, Time};
 use rpki_certs::{Cert, ResourceCert};
@@ -163,16 +163,17 @@ pub(crate) fn find_manifest<R: Repository, C: Crypto>(
     uri: &Rsync,
     room: &mut u64,
 ) -> Result<Manifest, Stop>
-    ensures { IsOutcome (ReadStarts (setting R.finds C.digest_of C.is_signed pass.now) uri.now)
+    ensures { IsOutcome
+        (ReadStarts (setting R.finds C.digest_of C.is_signed pass.now) opening_cost uri.now)
         (λ m n. IsManifestAt (setting R.finds C.digest_of C.is_signed pass.now) ca.now folder.now
         uri.now m.signer.cert.certificate m.content
-        × ReadCosts (setting R.finds C.digest_of C.is_signed pass.now) uri.now n)
+        × ReadCosts (setting R.finds C.digest_of C.is_signed pass.now) opening_cost uri.now n)
         (λ cause n. WhyNoManifestOf (setting R.finds C.digest_of C.is_signed pass.now) ca.now
         folder.now uri.now cause
-        × ReadCosts (setting R.finds C.digest_of C.is_signed pass.now) uri.now n)
+        × ReadCosts (setting R.finds C.digest_of C.is_signed pass.now) opening_cost uri.now n)
         room.old room.new result }
 {
-    let octets = match read_file(alloc, pass, uri, room)? {
+    let octets = match read_file(alloc, pass, uri, OPENING, room)? {
         Ok(octets) => octets,
         Err(why) => return Err(Stop::Refused(Cause::Manifest(ManifestFault::NoFile(why)))),
     };

@@ -1,12 +1,13 @@
 //! Places of a validation run: certification authorities (CAs) with the numbers that they have.
 
-ghost use Rattle.std.specs.Prelude.{◌≡◌, ◌<◌, ◌^◌, length, ◌++◌, IfOk, OnOk, option_map};
+ghost use Rattle.std.specs.Prelude.{◌≡◌, ◌*◌, ◌<◌, ◌^◌, length, ◌++◌, IfOk, OnOk, option_map};
 ghost use Rattle.std.specs.List.{flat_map};
-ghost use Rattle.rpki_relying_party.specs.Costs.{waiting_cost};
+ghost use Rattle.rpki_relying_party.specs.Costs.{blocks_of, waiting_cost};
 ghost use Rattle.rpki_relying_party.specs.Place.{octets_of, part_of, uri_part, ends_of, set_part};
 ghost use Rattle.rpki_relying_party.specs.Place.{cert_part, sets_part, key_of};
 ghost use Rattle.rpki_relying_party.specs.Tells.{earlier};
 
+use bytes::Bytes;
 use rpki_basics::{Rsync, Time};
 use rpki_certs::ResourceCert;
 use rpki_resources::{Block, Blocks, Number};
@@ -130,12 +131,20 @@ fn count_of<T: Number>(blocks: &Blocks<T>) -> u128
     blocks.as_slice().len() as u128
 }
 
-/// What a place takes that waits: its certificate, its key and its sets.
-pub(crate) fn cost_of(ca: &ResourceCert) -> u128
-    ensures { result ≡ waiting_cost ca.now }
+/// How many blocks the three sets of a CA have.
+pub(crate) fn count_blocks(ca: &ResourceCert) -> u128
+    ensures counts { result ≡ blocks_of ca.now }
+    ensures fits { result < 3 * 2 ^ 64 }
 {
     let addresses = count_of(ca.v4_resources()) + count_of(ca.v6_resources());
-    16_384 + 64 * (count_of(ca.as_resources()) + addresses)
+    count_of(ca.as_resources()) + addresses
+}
+
+/// What a place takes that waits: its certificate, which has these octets, its key and its sets.
+pub(crate) fn cost_of(octets: &Bytes, ca: &ResourceCert) -> u128
+    ensures { result ≡ waiting_cost octets.now ca.now }
+{
+    16_384 + 8 * (octets.len() as u128) + 1_024 * count_blocks(ca)
 }
 
 /// The earlier of two moments.

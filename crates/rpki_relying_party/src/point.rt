@@ -63,17 +63,17 @@ fn process_listed<R: Repository, C: Crypto>(
     requires { IsManifestAt (setting R.finds C.digest_of C.is_signed pass.now) place.now.ca
         folder.now uri.now manifest.now.signer.cert.certificate manifest.now.content }
     ensures { IsOutcome (ListedStarts (setting R.finds C.digest_of C.is_signed pass.now)
-        place.now.ca folder.now manifest.now.signer.cert.certificate manifest.now.content)
+        place.now.ca folder.now uri.now manifest.now.signer.cert.certificate manifest.now.content)
         (λ _ n. AppendsBoth (PointTells (setting R.finds C.digest_of C.is_signed pass.now)
         place.now folder.now uri.now)
         findings.old.said.items findings.new.said.items
         findings.old.children.items findings.new.children.items
         × ListedCosts (setting R.finds C.digest_of C.is_signed pass.now) place.now.ca folder.now
-        manifest.now.signer.cert.certificate manifest.now.content n)
+        uri.now manifest.now.signer.cert.certificate manifest.now.content n)
         (λ cause n. WhyNoPoint (setting R.finds C.digest_of C.is_signed pass.now) place.now.ca
         folder.now uri.now cause
         × ListedCosts (setting R.finds C.digest_of C.is_signed pass.now) place.now.ca folder.now
-        manifest.now.signer.cert.certificate manifest.now.content n)
+        uri.now manifest.now.signer.cert.certificate manifest.now.content n)
         room.old room.new result }
 {
     match find_crl(alloc, pass, &place.ca, folder, manifest, room) {

@@ -26,13 +26,15 @@ returns-in-Err g c =
     file-lost s above.ca.now above.list.now.uri list above.until above.manifest.now c.args.listed
     c.args.findings.now.said.items c.args.findings.now.children.items
     (λ e. true≢false (sym (c.are_same.ensures.1 e) ∙ c.if-are_same.false))
-    (λ octets n. Has s c.args.listed octets × (n ≡ found_cost (Ok octets)))
+    (λ octets n. Has s c.args.listed octets
+    × (n ≡ found_cost c.listing_cost-price.result (Ok octets)))
     (λ (_ : Unit {0}) n. AppendsBoth (FileTells s above.ca.now
     above.list.now.uri list above.until above.manifest.now c.args.listed)
     c.args.findings.now.said.items c.args.findings.now.said.items
     c.args.findings.now.children.items c.args.findings.now.children.items
-    × FileCosts s above.ca.now above.list.now.uri list c.args.listed n)
-    c.args.room.now c.read_listed.new.room c.in-Err.stop c.in-Err.ensures
+    × FileCosts s above.ca.now above.list.now.uri list above.manifest.now c.args.listed n)
+    c.args.room.now c.read_listed.new.room c.in-Err.stop c.listing_cost-price.result
+    c.listing_cost-price.ensures c.in-Err.ensures
 
 pub returns-in-Ok : goal.returns-in-Ok
 returns-in-Ok g c =
@@ -43,6 +45,6 @@ returns-in-Ok g c =
     file-read s above.ca.now above.list.now.uri list above.until above.manifest.now c.args.listed
     c.args.findings.now.said.items c.args.findings.now.children.items
     (λ e. true≢false (sym (c.are_same.ensures.1 e) ∙ c.if-are_same.false)) c.in-Ok.octets
-    c.args.room.now c.read_listed.new.room c.in-Ok.ensures
+    c.args.room.now c.read_listed.new.room (rw c.listing_cost-price.ensures at c.in-Ok.ensures)
     c.process_read.new.findings.said.items c.process_read.new.findings.children.items
     c.process_read.new.room c.process_read.result c.process_read.ensures

@@ -36,12 +36,12 @@ returns-in-Err-process_file g c =
     above.manifest.now c.in-Ok.listed) c.loop-item.findings.said.items
     c.process_file.new.findings.said.items c.loop-item.findings.children.items
     c.process_file.new.findings.children.items
-    × FileCosts s above.ca.now above.list.now.uri list c.in-Ok.listed n)
+    × FileCosts s above.ca.now above.list.now.uri list above.manifest.now c.in-Ok.listed n)
     (λ (_ : Unit {0}) n. AppendsBoth (FilesTell s above.ca.now above.list.now.uri list above.until
     above.manifest.now (uris_of c.args.folder.now c.args.manifest.now.files))
     c.args.findings.now.said.items c.process_file.new.findings.said.items
     c.args.findings.now.children.items c.process_file.new.findings.children.items
-    × FilesCost s above.ca.now above.list.now.uri list
+    × FilesCost s above.ca.now above.list.now.uri list above.manifest.now
     (uris_of c.args.folder.now c.args.manifest.now.files) n)
     c.process_file.new.room c.in-Err-process_file.stop c.in-Err-process_file.ensures
 

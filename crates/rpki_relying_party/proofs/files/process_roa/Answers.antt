@@ -1,14 +1,16 @@
-use Rattle.std.proofs.Common.{◌≡◌, [], ◌∷◌, ◌++◌, inr, refl, sym, subst, ◌∙◌, true≢false}
-use Rattle.std.specs.Prelude.{IfOk}
+use Rattle.std.proofs.Common.{◌*◌, ◌∷◌, ◌++◌, length, sym, subst, ◌∙◌, true≢false}
 use Rattle.rpki_basics.specs.Moment.{Moment}
 use Rattle.rpki_certs.specs.Cert.{KeptCertificate}
+use Rattle.rpki_routes.specs.Roa.{addresses}
+use Rattle.rpki_relying_party.specs.Costs.{payload_cost}
+use Rattle.rpki_relying_party.specs.Memory.{IsCheckMemory}
+use Rattle.rpki_relying_party.specs.Outcome.{Puts}
 use Rattle.rpki_relying_party.specs.Passes.{setting}
-use Rattle.rpki_relying_party.specs.Tells.{KindTells, NamesPrefixesAlone, refusal}
-use Rattle.rpki_relying_party.specs.Tells.{origins_said, earlier}
+use Rattle.rpki_relying_party.specs.Tells.{NamesPrefixesAlone, origins_said, earlier}
 use Rattle.rpki_relying_party.specs.declared.cause.Cause.TheVariants as causes
 use Rattle.rpki_relying_party.specs.declared.kind.ListedKind.TheVariants as kinds
-use Rattle.rpki_relying_party.proofs.Judging.{ends-with, roa-told, roa-broad}
-use Rattle.rpki_relying_party.proofs.Putting.{first-put-if, first-put-unless}
+use Rattle.rpki_relying_party.proofs.Judging.{ends-with, roa-told, roa-broad, roa-refused}
+use Rattle.rpki_relying_party.proofs.Judging.{payloads-judged, refused-judged, each-ok}
 use Rattle.rpki_relying_party.proofs.files.process_roa.Goals as goal
 
 pub returns-in-Err : goal.returns-in-Err
@@ -17,11 +19,12 @@ returns-in-Err g c =
     c.args.pass.now in
     let above = c.args.above.now in
     let list = above.list.now.crl.list in
-    first-put-unless (KindTells s above.ca.now list above.until above.manifest.now c.args.uri
-    c.args.octets kinds.Roa) c.args.findings.now.said.items c.refuse_object.new.said.items
-    (refusal c.args.uri (causes.Object c.in-Err.error) above.manifest.now ∷ [])
-    c.args.findings.now.children.items c.refuse_object.result
-    (λ m. (inr (causes.Object c.in-Err.error, (c.in-Err.ensures.first, m), refl), refl))
+    refused-judged s above.ca.now list above.until above.manifest.now c.args.uri c.args.octets
+    kinds.Roa c.args.findings.now.said.items c.refuse_object.new.said.items
+    c.args.findings.now.children.items c.args.room.now c.refuse_object.result
+    (IsCheckMemory c.in-Err.error) (causes.Object c.in-Err.error)
+    (λ m. roa-refused s above.ca.now list above.until above.manifest.now c.args.uri c.args.octets
+    (causes.Object c.in-Err.error) (c.in-Err.ensures.first, m))
     c.refuse_object.ensures.memory c.refuse_object.ensures.refused
 
 -- what the certificate claims
@@ -34,20 +37,19 @@ returns-then-names_prefixes_alone g c =
     c.args.pass.now in
     let above = c.args.above.now in
     let list = above.list.now.crl.list in
-    first-put-if (KindTells s above.ca.now list above.until above.manifest.now c.args.uri
-    c.args.octets kinds.Roa) c.args.findings.now.said.items c.put_origins-put.new.said.items
+    payloads-judged s above.ca.now list above.until above.manifest.now c.args.uri c.args.octets
+    kinds.Roa c.args.findings.now.said.items c.put_origins-put.new.said.items
+    c.args.findings.now.children.items c.args.room.now c.put_origins-put.result
+    (payload_cost * length (addresses c.in-Ok.roa)) c.put_origins-put.new.room
     (origins_said (earlier above.until c.in-Ok.cert.cert.certificate.tbs.validity.not_after)
     c.args.uri c.in-Ok.roa)
-    c.args.findings.now.children.items c.put_origins-put.result (
-      roa-told s above.ca.now list above.until above.manifest.now c.args.uri c.args.octets
-          c.in-Ok.cert c.in-Ok.roa c.in-Ok.ensures.exact
-          (subst Alone c.cert-in-Ok.ensures
-          (c.names_prefixes_alone.ensures.0 c.if-names_prefixes_alone.true)),
-      refl,
-    )
-    (subst (λ (t : Moment). IfOk c.put_origins-put.result (λ _.
-    c.put_origins-put.new.said.items
-    ≡ c.args.findings.now.said.items ++ origins_said t c.args.uri c.in-Ok.roa))
+    (roa-told s above.ca.now list above.until above.manifest.now c.args.uri c.args.octets
+    c.in-Ok.cert c.in-Ok.roa c.in-Ok.ensures.exact (subst Alone c.cert-in-Ok.ensures
+    (c.names_prefixes_alone.ensures.0 c.if-names_prefixes_alone.true)))
+    (subst (λ (t : Moment). Puts (payload_cost * length (addresses c.in-Ok.roa))
+    (origins_said t c.args.uri c.in-Ok.roa) c.args.findings.now.said.items
+    c.put_origins-put.new.said.items c.args.room.now c.put_origins-put.new.room
+    c.put_origins-put.result)
     (ends-with above.until c.earlier-until.result c.not_after.result c.validity.result
     c.cert.result.now c.in-Ok.cert.cert c.earlier-until.ensures c.not_after.ensures
     c.validity.ensures c.cert.ensures) c.put_origins-put.ensures)
@@ -58,14 +60,12 @@ returns-else-names_prefixes_alone g c =
     c.args.pass.now in
     let above = c.args.above.now in
     let list = above.list.now.crl.list in
-    first-put-if (KindTells s above.ca.now list above.until above.manifest.now c.args.uri
-    c.args.octets kinds.Roa) c.args.findings.now.said.items c.refuse.new.said.items
-    (refusal c.args.uri causes.RoaCertificate above.manifest.now ∷ [])
-    c.args.findings.now.children.items c.refuse.result (
-      roa-broad s above.ca.now list above.until above.manifest.now c.args.uri c.args.octets
-          c.in-Ok.cert c.in-Ok.roa c.in-Ok.ensures.exact
-          (λ alone. true≢false (sym (c.names_prefixes_alone.ensures.1
-          (subst Alone (sym c.cert-in-Ok.ensures) alone)) ∙ c.if-names_prefixes_alone.false)),
-      refl,
-    )
-    c.refuse.ensures
+    refused-judged s above.ca.now list above.until above.manifest.now c.args.uri c.args.octets
+    kinds.Roa c.args.findings.now.said.items c.refuse.new.said.items
+    c.args.findings.now.children.items c.args.room.now c.refuse.result ⊥ causes.RoaCertificate
+    (λ m. roa-refused s above.ca.now list above.until above.manifest.now c.args.uri c.args.octets
+    causes.RoaCertificate (roa-broad s above.ca.now list above.until above.manifest.now c.args.uri
+    c.args.octets c.in-Ok.cert c.in-Ok.roa c.in-Ok.ensures.exact
+    (λ alone. true≢false (sym (c.names_prefixes_alone.ensures.1
+    (subst Alone (sym c.cert-in-Ok.ensures) alone)) ∙ c.if-names_prefixes_alone.false))))
+    (each-ok c.refuse.result (λ e. e)) c.refuse.ensures

@@ -1,16 +1,15 @@
--- One place more is counted.
-use Rattle.std.proofs.Common.{arith}
-use Rattle.rpki_relying_party.specs.Runs.{count_for}
-use Rattle.rpki_relying_party.proofs.Leaving.{counts-fit, counts-next}
+-- Those that were left for the one, and for the other.
+use Rattle.std.proofs.Common.{◌≡◌, ℕ, List}
+use Rattle.rpki_relying_party.specs.Runs.{counted, left_under}
+use Rattle.rpki_relying_party.specs.declared.walk.Why.{Why}
+use Rattle.rpki_relying_party.specs.declared.walk.Why.TheVariants.{Limit, Memory}
 use Rattle.rpki_relying_party.proofs.locator.count_all.Goals as goal
 
-pub count_left-requires : goal.count_left-requires
-count_left-requires c =
-    counts-fit c.args.unread.now c.loop-left.left-index (count_for c.loop-left.counts)
-    c.loop-left.invariant (omega arith)
-
-pub loop-left-preserved : goal.loop-left-preserved
-loop-left-preserved c =
-    counts-next c.args.unread.now c.loop-left.left-index (count_for c.loop-left.counts)
-    c.loop-left.invariant (omega arith) c.left-item.result c.left-item.is
-    (count_for c.count_left.new.counts) c.in_ok-count_left.ensures
+pub returns : goal.returns
+returns c = of
+  where
+    of : (why : Why) (uri : List ℕ)
+        → counted (record { limit = c.in_ok-limit.limit; memory = c.in_ok-memory.memory }) why uri
+        ≡ left_under c.args.unread.now why uri
+    of Limit uri = c.in_ok-limit.ensures uri
+    of Memory uri = c.in_ok-memory.ensures uri

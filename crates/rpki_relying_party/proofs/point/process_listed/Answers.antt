@@ -20,7 +20,7 @@ returns-in-Err g c =
     (λ (_ : Unit {0}) n. AppendsBoth (PointTells s place c.args.folder.now c.args.uri.now)
     c.args.findings.now.said.items c.args.findings.now.said.items
     c.args.findings.now.children.items c.args.findings.now.children.items
-    × ListedCosts s place.ca c.args.folder.now signer content n)
+    × ListedCosts s place.ca c.args.folder.now c.args.uri.now signer content n)
     c.args.room.now c.find_crl.new.room c.in-Err.stop c.in-Err.ensures
 
 pub returns-in-Ok : goal.returns-in-Ok

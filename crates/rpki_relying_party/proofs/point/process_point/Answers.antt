@@ -1,4 +1,4 @@
-use Rattle.rpki_relying_party.specs.Costs.{ReadCosts, PointCosts}
+use Rattle.rpki_relying_party.specs.Costs.{ReadCosts, PointCosts, opening_cost}
 use Rattle.rpki_relying_party.specs.Outcome.{AppendsBoth}
 use Rattle.rpki_relying_party.specs.Passes.{setting}
 use Rattle.rpki_relying_party.specs.Point.{IsManifestAt}
@@ -14,7 +14,7 @@ returns-in-Err g c =
     let place = c.args.place.now in
     no-manifest s place c.args.folder.now c.args.uri.now
     (λ (m : Manifest) n. IsManifestAt s place.ca c.args.folder.now c.args.uri.now
-    m.signer.cert.certificate m.content × ReadCosts s c.args.uri.now n)
+    m.signer.cert.certificate m.content × ReadCosts s opening_cost c.args.uri.now n)
     (λ (_ : Unit {0}) n. AppendsBoth (PointTells s place c.args.folder.now c.args.uri.now)
     c.args.findings.now.said.items c.args.findings.now.said.items
     c.args.findings.now.children.items c.args.findings.now.children.items
