@@ -1,6 +1,6 @@
 -- The files of a manifest are looked at one by one, until one has the name of an earlier one. Below
 -- one folder, the URIs of two files are the same where their names are.
-use Rattle.std.proofs.Common.{◌≡◌, ◌⊎◌, inl, inr, ℕ, List, [], ◌∷◌, ◌++◌, ◌<◌, Contains, map, length}
+use Rattle.std.proofs.Common.{◌≡◌, inl, inr, ℕ, List, [], ◌∷◌, ◌++◌, ◌<◌, Contains, map, length}
 use Rattle.std.proofs.Common.{Bool, Bor, true, false, cond, get_or, refl, sym, subst, ap, ◌∙◌}
 use Rattle.std.proofs.Common.{append_assoc, arith, true≢false}
 use Rattle.std.specs.Prelude.{◌↔◌, ◌≢◌, All, AllPairs, IsTrue, codes, nat_eq}
