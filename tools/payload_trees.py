@@ -165,6 +165,14 @@ def twice(name):
     return of_point(f"a manifest lists {name!r} twice", f"{name} is listed twice", change)
 
 
+def twice_below(t):
+    """The manifest of `c` lists a name twice; the URI of its folder is long."""
+    t.add_c(folder=f"rsync://{HOST}/m/" + ("d" * 250 + "/") * 10)
+    t.c.add("again.roa", t.c.files["o.roa"])
+    t.c.listed_as["again.roa"] = "o.roa"
+    t.says(A + B, (t.c.manifest, "o.roa is listed twice", t.a.manifest))
+
+
 LONG = "a" * 4996 + ".roa"
 POINTS = [
     of_point("a listed file is missing", f"o.roa {GONE}", lambda t: t.lose(t.roa)),
@@ -189,6 +197,7 @@ POINTS = [
              sets(revoked=lambda t: [t.a.MANIFEST_SERIAL])),
     listed("../x.roa"), listed(".."), listed("."), listed("a/b.roa"), listed("/etc/passwd"),
     listed("/x.roa"), listed(""), listed(LONG, f"{LONG} {UNREAD}"), twice("o.roa"), twice("a.crl"),
+    ("a manifest below a long folder lists a name twice", twice_below),
 ]
 
 
@@ -326,6 +335,15 @@ def at(what, folder, manifest, cause):
     return f"{what} {folder or manifest}", change
 
 
+def deep(parts):
+    """The files of `c` have names of so many parts: those of more than 64 are looked for nowhere."""
+    def change(t):
+        t.add_c(folder=f"rsync://{HOST}/m/{'d/' * (parts - 3)}")
+        if parts > 64:
+            t.says(A + B, (t.c.manifest, f"manifest {GONE}", t.a.manifest))
+    return f"files whose names have {parts} parts", change
+
+
 OUT, HERE = "rsync://../m/x", "rsync://./m/x"
 NOWHERE = "rsync://h/m/../x", "rsync://h/../x", "rsync://h/m//x", "https://a/../x"
 SHAPES = [
@@ -346,6 +364,7 @@ SHAPES = [
     at("a point", HERE, HERE, f"manifest {GONE}"),
     *(at("a folder", uri, None, NO_FOLDER) for uri in NOWHERE),
     *(at("a manifest", None, uri, NO_URI) for uri in NOWHERE),
+    deep(64), deep(65),
 ]
 
 

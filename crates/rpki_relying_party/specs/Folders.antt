@@ -1,11 +1,12 @@
 -- What reads of a folder may find, as a copy of the repositories: octets, or why there is no file.
 use Rattle.std.specs.Prelude.{◌≡◌, ◌⊎◌, ◌<◌, ◌≤◌, ℕ, List, ◌++◌, codes, Result, Err, Contains}
-use Rattle.std.specs.Prelude.{map}
+use Rattle.std.specs.Prelude.{map, length}
+use Rattle.std.specs.List.{slice_split}
 use Rattle.std.specs.Fs.{metadata_len, file_type, IsFile, IsDir, IsSymlink}
 use Rattle.std.specs.declared.fs.attrs.Metadata.{Metadata}
 use Rattle.rpki_tal.specs.Tal.{Locator}
 use Rattle.rpki_tal.specs.Uri.{uri_text}
-use Rattle.rpki_relying_party.specs.Names.{IsBelow, path_of, anchor_name}
+use Rattle.rpki_relying_party.specs.Names.{IsBelow, is_slash, path_of, anchor_name}
 use Rattle.rpki_relying_party.specs.declared.copy.NoFile.{NoFile}
 use Rattle.rpki_relying_party.specs.declared.copy.NoFile.TheVariants.{Missing, NotRegular, TooLarge}
 use Rattle.rpki_relying_party.specs.declared.folder.system.Bounds.{Bounds}
@@ -45,6 +46,11 @@ FindsIn finds name tal uri found =
 -- the path of the file with this name below a folder
 abbrev pub path_below : List ℕ → List ℕ → List ℕ
 path_below folder name = folder ++ (codes "/" ++ name)
+
+-- A name is looked up: it has at most 64 parts, with a slash between each two, which is this
+-- project's own rule.
+abbrev pub HasFewParts : List ℕ → Type 0
+HasFewParts name = length (slice_split is_slash name) ≤ 64
 
 -- A file of so many octets is read: it may have as many, and as many are asked for.
 abbrev pub IsFew : Bounds → ℕ → Type 0

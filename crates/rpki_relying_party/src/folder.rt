@@ -15,7 +15,7 @@ pub use names::{is_below, locator_name};
 use names::{anchor_name, path_of};
 use rpki_tal::Tal;
 use std::alloc::{AllocError, Global};
-pub use system::{MAX_FILE, SystemFolders};
+pub use system::{MAX_FILE, MAX_PARTS, SystemFolders};
 
 /// Folders of files.
 pub trait Folders {

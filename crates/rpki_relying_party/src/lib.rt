@@ -30,7 +30,7 @@ mod walk;
 pub use anchor::{AnchorFault, anchor_of};
 pub use cause::{Cause, FileFault, ListFault, ManifestFault};
 pub use copy::{Fetched, NoFile, Repository};
-pub use folder::{FolderCopy, Folders, MAX_FILE, SystemFolders, is_below, locator_name};
+pub use folder::{FolderCopy, Folders, MAX_FILE, MAX_PARTS, SystemFolders, is_below, locator_name};
 pub use found::{BoxedRefusal, Finding, Found, Refusal};
 pub use locator::{RunFault, refuse_unread, run_under};
 pub use pass::Pass;

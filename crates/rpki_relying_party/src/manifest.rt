@@ -4,10 +4,12 @@ ghost use Rattle.std.specs.Prelude.{◌≡◌, ◌⊎◌, IfOk, MatchOption, Ok,
 ghost use Rattle.std.specs.Fn.{FnOnceTakesAt, FnOnceReturnsAt};
 ghost use Rattle.rpki_der.specs.declared.mode.Mode.TheVariants.{Der};
 ghost use Rattle.rpki_faults.specs.Checks.{AnswersFirstFault};
+ghost use Rattle.rpki_basics.specs.Uri.{join_text};
 ghost use Rattle.rpki_certs.specs.Cert.{KeptCertificate};
 ghost use Rattle.rpki_files.specs.Manifest.{ManifestForm};
 ghost use Rattle.rpki_files.specs.Manifest.Checks.{manifest_kind};
 ghost use Rattle.rpki_files.specs.Manifest.Uris.{uris_of};
+ghost use Rattle.rpki_files.specs.Name.{IsFileName};
 ghost use Rattle.rpki_signed.specs.Check.{Checks};
 ghost use Rattle.rpki_signed.specs.Exact.{IsExact};
 ghost use Rattle.rpki_relying_party.specs.Costs.{ReadCosts, ReadStarts, opening_cost};
@@ -16,7 +18,6 @@ ghost use Rattle.rpki_relying_party.specs.Memory.{IsCheckMemory};
 ghost use Rattle.rpki_relying_party.specs.Outcome.{IsOutcome};
 ghost use Rattle.rpki_relying_party.specs.Passes.{setting};
 ghost use Rattle.rpki_relying_party.specs.Point.{AreOnce, IsManifestAt};
-ghost use Rattle.rpki_relying_party.specs.Steps.{has_key, IsPut};
 ghost use Rattle.rpki_relying_party.specs.declared.cause.Cause.TheVariants as causes;
 ghost use Rattle.rpki_relying_party.specs.declared.cause.ManifestFault.TheVariants as faults;
 ghost use Rattle.rpki_relying_party.specs.declared.cause.Stop.TheVariants as stops;
@@ -27,6 +28,7 @@ use crate::memory::is_check_memory;
 use crate::pass::Pass;
 use crate::reader::{OPENING, read_file};
 use bytes::Bytes;
+use rpki_basics::uri::Error;
 use rpki_basics::{Crypto, ManifestRule, Rsync, Time};
 use rpki_certs::{Cert, ResourceCert};
 use rpki_faults::ValidationError;
@@ -105,15 +107,25 @@ fn check_current(manifest: &ManifestContent, now: Time) -> Result<(), ManifestFa
     Ok(())
 }
 
-// Puts a URI to those that were met: whether it was not among them.
-fn put_uri(alloc: Global, uris: &mut BTreeSet<Vec<u8>>, uri: &Rsync) -> Result<bool, AllocError>
-    ensures { IfOk result (λ fresh. IsPut uri.now (has_key uris.old) (has_key uris.new) fresh) }
+// The URI of the file with this name below a folder.
+#[tactic(auto, using(rpki_files::proofs::Names::Joined::name_joined))]
+fn uri_below(alloc: Global, folder: &Rsync, name: &[u8]) -> Result<Rsync, AllocError>
+    requires { IsFileName name.now }
+    ensures { IfOk result (λ uri. uri ≡ join_text folder.now name.now) }
 {
-    let key = Vec::from_slice(alloc, uri.as_slice())?;
-    Ok(uris.insert(key)?)
+    // The proof takes from this call that the folder is an rsync URI.
+    let _ = folder.as_slice();
+    match folder.join(alloc, name) {
+        Ok(uri) => Ok(uri),
+        Err(Error::Memory) => Err(AllocError),
+        Err(Error::InvalidCharacters) => unreachable!(),
+        Err(Error::BadScheme) => unreachable!(),
+        Err(Error::BadUri) => unreachable!(),
+    }
 }
 
-// The first file that an earlier one has, if any.
+// The first file that an earlier one has, if any. Names are compared, and not their URIs, which all
+// begin with the folder: so time and memory follow the octets of the manifest.
 fn find_repeated(
     alloc: Global,
     manifest: &ManifestContent,
@@ -123,17 +135,11 @@ fn find_repeated(
         (AreOnce (uris_of folder.now manifest.now.files))
         (IsFirstRepeated (uris_of folder.now manifest.now.files))) }
 {
-    let mut uris = BTreeSet::new(alloc);
-    let mut files = manifest.iter_uris(alloc, folder);
-    while let Some(item) = files.next() {
-        match item {
-            Err(error) => return Err(error),
-            Ok((uri, _)) => {
-                let is_new = put_uri(alloc, &mut uris, &uri)?;
-                if !is_new {
-                    return Ok(Some(uri));
-                }
-            }
+    let mut names = BTreeSet::new(alloc);
+    let mut files = manifest.iter();
+    while let Some(file) = files.next() {
+        if !names.insert(file.file)? {
+            return Ok(Some(uri_below(alloc, folder, file.file)?));
         }
     }
     Ok(None)

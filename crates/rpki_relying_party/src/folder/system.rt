@@ -1,13 +1,15 @@
 //! The folders of the system.
 
 ghost use Rattle.std.specs.Prelude.{◌≡◌, ◌≢◌, ◌≤◌, ◌↔◌, ◌⊎◌, IfOk, IfSome, OnOk, IfErr, MatchResult};
-ghost use Rattle.std.specs.Prelude.{length, min};
+ghost use Rattle.std.specs.Prelude.{IsTrue, length, min};
 ghost use Rattle.std.specs.Fs.{file_type, IsDir};
+ghost use Rattle.std.specs.List.{slice_split};
 ghost use Rattle.std.specs.String.{string_bytes};
 ghost use Rattle.rpki_relying_party.specs.declared.copy.NoFile.TheVariants.{Missing};
 ghost use Rattle.rpki_relying_party.specs.declared.folder.system.Lack.{Lack as Lacks};
-ghost use Rattle.rpki_relying_party.specs.Folders.{IsFew, IsReadable, MayLack, WhyMany, WhyUnread};
-ghost use Rattle.rpki_relying_party.specs.Folders.{WhyNoFolder, path_below};
+ghost use Rattle.rpki_relying_party.specs.Folders.{HasFewParts, IsFew, IsReadable, MayLack};
+ghost use Rattle.rpki_relying_party.specs.Folders.{WhyMany, WhyNoFolder, WhyUnread, path_below};
+ghost use Rattle.rpki_relying_party.specs.Names.{is_slash};
 
 use super::Folders;
 use crate::copy::{Fetched, NoFile};
@@ -21,13 +23,19 @@ use std::{fs, io, str};
 /// How many octets a file may have, if nothing else is said.
 pub const MAX_FILE: u64 = 20_000_000;
 
+/// How many parts a name may have, with a slash between each two. The system goes through all parts
+/// before one to look at it, so that its work grows with the square of their number. The bound is
+/// this project's own rule.
+pub const MAX_PARTS: usize = 64;
+
 /// The folders of the system. A file is a regular one of at most so many octets: its type and its
 /// size are asked before it is opened, and nothing else is opened, nor a file of more octets than are
 /// asked for. No symbolic link below the folder is followed; the folder itself may be reached by
 /// some.
 ///
 /// The work of a read is in proportion to the octets of the file, and each part of the name is one
-/// question to the system. A name that is no UTF-8 is that of no file.
+/// question to the system. A name that is no UTF-8, or that has more than `MAX_PARTS` parts, is that
+/// of no file.
 ///
 /// Someone who may write to the folder while it is read can put another file in place of one between
 /// the question and the opening, such as a link, which is followed then, or a named pipe, which the
@@ -153,6 +161,20 @@ fn check_folder(metadata: &Metadata) -> Result<(), NoFile>
     }
 }
 
+// How many parts a name has, with a slash between each two.
+fn count_parts(name: &str) -> usize
+    ensures { result ≡ length (slice_split is_slash name.now) }
+{
+    name.split('/').count()
+}
+
+// Whether a name has so few parts that the system is asked for them.
+fn has_few_parts(name: &str) -> bool
+    ensures { IsTrue result ↔ HasFewParts name.now }
+{
+    count_parts(name) <= MAX_PARTS
+}
+
 // Puts a part of a name at the end of a path.
 fn push_part(path: &mut String, part: &str) -> Result<(), AllocError>
     ensures { OnOk result
@@ -252,6 +274,9 @@ impl<R: Files> Folders for SystemFolders<'_, R> {
         let Ok(name) = str::from_utf8(name) else {
             return Ok(Fetched::NoFile(NoFile::Missing));
         };
+        if !has_few_parts(name) {
+            return Ok(Fetched::NoFile(NoFile::Missing));
+        }
         let bounds = Bounds {
             max_file: self.max_file,
             most,
