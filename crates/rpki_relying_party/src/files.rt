@@ -193,8 +193,9 @@ fn put_providers(
     said: &mut Vec<Finding>,
     room: &mut u64,
 ) -> Result<(), Stop>
-    ensures { Puts (payload_cost * length aspa.now.providers) (providers_said until uri.now aspa.now)
-        said.old.items said.new.items room.old room.new result }
+    ensures { Puts (payload_cost * length aspa.now.providers)
+        (providers_said until uri.now aspa.now) said.old.items said.new.items room.old room.new
+        result }
 {
     let customer = aspa.customer_as();
     for provider in aspa.provider_as_set().iter() {

@@ -1,4 +1,4 @@
-use Rattle.std.proofs.Common.{◌*◌, ◌∷◌, ◌++◌, length, sym, subst, ◌∙◌, true≢false}
+use Rattle.std.proofs.Common.{◌*◌, length, sym, subst, ◌∙◌, true≢false}
 use Rattle.rpki_basics.specs.Moment.{Moment}
 use Rattle.rpki_certs.specs.Cert.{KeptCertificate}
 use Rattle.rpki_routes.specs.Roa.{addresses}

@@ -50,5 +50,6 @@ returns c =
     let aspa = c.args.aspa.now in
     all-paid (provider_said c.args.until c.args.uri.now c.customer_as-customer.result)
     (providers_said c.args.until c.args.uri.now aspa) (length aspa.providers)
-    c.args.said.now.items c.args.room.now c.loop-provider.provider-iterator c.loop-provider.said.items
-    c.loop-provider.room c.in-None.ensures.steps.0 c.loop-provider.invariant
+    c.args.said.now.items c.args.room.now c.loop-provider.provider-iterator
+    c.loop-provider.said.items c.loop-provider.room c.in-None.ensures.steps.0
+    c.loop-provider.invariant
