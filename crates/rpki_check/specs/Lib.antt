@@ -1,4 +1,5 @@
 pub mod Attestation
+pub mod Calls
 pub mod Files
 pub mod Grounds
 pub mod Kinds
