@@ -1,4 +1,5 @@
-/* rpki_check.h - checks of signed objects of the RPKI, by proved code; link with -lrpki_check
+/* rpki_check.h - checks of signed objects of the RPKI, by proved code; link with -lrpki_check,
+ * librpki_check.so.0 or librpki_check.a.
  *
  * A call reads what it is lent, writes into what it is lent, and keeps nothing:
  * there is no state, nothing to set up and nothing to free. Calls may run in
@@ -31,9 +32,10 @@ uint32_t rpki_check_version(void);
  * each is its text. */
 enum rpki_status {
 	RPKI_GOOD = 0,          /* the octets begin with a good object */
-	RPKI_NO_MEMORY = 1,     /* memory ran out: nothing is said of the octets */
+	RPKI_NO_MEMORY = 1,     /* memory ran out: nothing is said of the octets; the text is
+	                         * "out of memory", or none where memory lacked for it */
 	RPKI_NO_MOMENT = 2,     /* "no such moment": the date is none */
-	RPKI_NO_KIND = 3,       /* no kind has this number, or the object names none (RPKI_NAMED) */
+	RPKI_NO_KIND = 3,       /* no kind has this number, or the object names none: no text */
 	RPKI_NO_LIST = 4,       /* "no revocation list": one of the lists is none */
 	RPKI_MALFORMED = 100,   /* "malformed", or a rule of the format that is broken:
 	                         * the octets begin with no object of the kind */
@@ -83,7 +85,7 @@ enum rpki_status {
 	RPKI_NO_V6_COVERED = 319,        /* no IPv6 ROA prefix covered by certificate */
 	RPKI_UNCOVERED_PREFIX = 320,     /* ROA prefix 192.0.2.0/24 not covered by certificate */
 	RPKI_CHECKLIST_NOT_HELD = 321,   /* checklist resources not held */
-	RPKI_MANIFEST_HASH = 322,        /* manifest hash mismatch */
+	RPKI_MANIFEST_HASH = 322,        /* manifest hash mismatch (no call answers it) */
 	RPKI_UNKNOWN_KEY = 323,          /* public key not found in chain */
 	RPKI_SIGNER_DIGEST = 324,        /* message digest mismatch */
 	RPKI_MISSING_CERTIFICATE = 325,  /* missing certificate */
@@ -141,8 +143,8 @@ typedef struct rpki_question {
  * The text is what a good object says, a line an item, as `rpki_verify check` has
  * them below its yes, or why there is none. It is UTF-8 without a 0 at its end.
  *
- * *length is always the length of the whole text. The text is written if it fits
- * into the room, and else nothing is: call again with a room of *length octets,
+ * *length is always the length of the whole text; it and the room are in octets. The
+ * text is written if it fits, and else nothing is: call again with a room of *length,
  * which gives the same answer. A room of NULL and 0 asks for the status alone. */
 uint32_t rpki_check_object(const rpki_question *question, uint32_t kind,
     const uint8_t *object, size_t object_length,
@@ -155,7 +157,8 @@ uint32_t rpki_check_attestation(const rpki_question *question,
     char *text, size_t room, size_t *length);
 
 /* What an object of a kind says, without a check: RPKI_GOOD says only that the octets
- * begin with one. Of the question, the options alone are looked at. */
+ * begin with one. Of the question, the options alone are looked at. The room is in
+ * octets. */
 uint32_t rpki_check_show(const rpki_question *question, uint32_t kind,
     const uint8_t *object, size_t object_length,
     char *text, size_t room, size_t *length);
@@ -166,8 +169,8 @@ typedef struct rpki_object { uint32_t kind; rpki_octets octets; } rpki_object;
 /* Checks many objects on one question, whose certificates and lists are read once.
  * The answer is RPKI_GOOD with *count = objects_length and a status of each object,
  * as rpki_check_object answers it, or the number of what is wrong with the question
- * with *count = 0. The statuses are written if all fit into the room, and else none:
- * read them only if the answer is RPKI_GOOD and *count <= room. */
+ * with *count = 0. The room is counted in statuses. They are written if all fit, and
+ * else none: read them only if the answer is RPKI_GOOD and *count <= room. */
 uint32_t rpki_check_objects(const rpki_question *question,
     const rpki_object *objects, size_t objects_length,
     uint32_t *statuses, size_t room, size_t *count);
@@ -183,14 +186,14 @@ typedef struct rpki_payload {
 } rpki_payload;
 
 /* Checks a ROA, as rpki_check_object does with RPKI_ROA. *count is the number of its
- * prefixes, 0 if it is not good; they are written if all fit into the room, IPv4
- * first, in the order of the ROA, and else none is. */
+ * prefixes, 0 if it is not good. The room is counted in prefixes; they are written if
+ * all fit, IPv4 first, in the order of the ROA, and else none is. */
 uint32_t rpki_check_roa(const rpki_question *question,
     const uint8_t *object, size_t object_length,
     rpki_payload *payloads, size_t room, size_t *count);
 
-/* Checks an ASPA in the same way. The numbers are the customer and then its
- * providers, in ascending order. */
+/* Checks an ASPA in the same way. The numbers, in which the room is counted, are the
+ * customer and then its providers, in ascending order. */
 uint32_t rpki_check_aspa(const rpki_question *question,
     const uint8_t *object, size_t object_length,
     uint32_t *numbers, size_t room, size_t *count);
@@ -199,9 +202,9 @@ uint32_t rpki_check_aspa(const rpki_question *question,
  * octets that are written with it; named is 0 if a checklist gives no name, and else 1. */
 typedef struct rpki_file { size_t name, name_length, hash, hash_length, named; } rpki_file;
 
-/* Check a manifest and a checklist in the same way, with two rooms: for *count files,
- * in their order, and for the *length octets in which names and hashes stand. Each is
- * written if all of it fits, and else not. */
+/* Check a manifest and a checklist in the same way, with two rooms: one, counted in
+ * files, for *count of them in their order, and one, counted in octets, for the *length
+ * octets in which names and hashes stand. Each is written if all of it fits, else not. */
 uint32_t rpki_check_manifest(const rpki_question *question,
     const uint8_t *object, size_t object_length,
     rpki_file *files, size_t room, size_t *count,
