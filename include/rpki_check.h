@@ -1,5 +1,5 @@
-/* rpki_check.h - checks of signed objects of the RPKI, by proved code; link with -lrpki_check
- * (librpki_check.so.0, or librpki_check.a)
+/* rpki_check.h - checks of signed objects of the RPKI, by proved code; link with -lrpki_check,
+ * librpki_check.so.0 or librpki_check.a.
  *
  * A call reads what it is lent, writes into what it is lent, and keeps nothing:
  * there is no state, nothing to set up and nothing to free. Calls may run in
@@ -35,8 +35,7 @@ enum rpki_status {
 	RPKI_NO_MEMORY = 1,     /* memory ran out: nothing is said of the octets; the text is
 	                         * "out of memory", or none where memory lacked for it */
 	RPKI_NO_MOMENT = 2,     /* "no such moment": the date is none */
-	RPKI_NO_KIND = 3,       /* no kind has this number, or the object names none (RPKI_NAMED);
-	                         * there is no text */
+	RPKI_NO_KIND = 3,       /* no kind has this number, or the object names none: no text */
 	RPKI_NO_LIST = 4,       /* "no revocation list": one of the lists is none */
 	RPKI_MALFORMED = 100,   /* "malformed", or a rule of the format that is broken:
 	                         * the octets begin with no object of the kind */
@@ -147,10 +146,9 @@ typedef struct rpki_question {
  * The text is what a good object says, a line an item, as `rpki_verify check` has
  * them below its yes, or why there is none. It is UTF-8 without a 0 at its end.
  *
- * *length is always the length of the whole text, and room that of the room, in
- * octets. The text is written if it fits, and else nothing is: call again with a room
- * of *length octets, which gives the same answer. A room of NULL and 0 asks for the
- * status alone. */
+ * *length is always the length of the whole text; it and the room are in octets. The
+ * text is written if it fits, and else nothing is: call again with a room of *length,
+ * which gives the same answer. A room of NULL and 0 asks for the status alone. */
 uint32_t rpki_check_object(const rpki_question *question, uint32_t kind,
     const uint8_t *object, size_t object_length,
     char *text, size_t room, size_t *length);

@@ -5,6 +5,8 @@ use Rattle.std.specs.Prelude.{MatchOption}
 use Rattle.rpki_der.specs.declared.mode.Mode.{Mode}
 use Rattle.rpki_der.specs.Form.Decodes.{IsOnlyFront}
 use Rattle.rpki_der.specs.Grammar.{HasNoFront}
+use Rattle.rpki_der.specs.declared.mode.Mode.TheVariants.{Der}
+use Rattle.rpki_multi.specs.Multi.{MultiForm}
 use Rattle.rpki_sigobj.specs.Object.{SignedForm, SignedObject}
 use Rattle.rpki_check.specs.Kinds.{AsksFor, IsAskedOr, IsNamedBy, Names, NamesAttestation}
 use Rattle.rpki_check.specs.Kinds.{asked_code, type_of}
@@ -45,6 +47,12 @@ module _ (mode : Mode) (octets source : List ℕ) (same : source ≡ octets) whe
           → MatchOption found ((k : Kind) → Names mode octets k → ⊥) (λ k. Names mode octets k)
       of-type None h = other h
       of-type (Some k) h = named k h
+
+-- octets that begin with no multi-signed object name no attestation
+pub no-attestation : (octets source : List ℕ) → source ≡ octets → HasNoFront (MultiForm Der) source
+    → NamesAttestation octets → ⊥
+no-attestation octets source same none h =
+    subst (λ (o : List ℕ). HasNoFront (MultiForm Der) o) same none h.object h.rest h.front.found
 
 -- nothing is named where neither a kind nor an attestation is
 pub none-named : (mode : Mode) (octets : List ℕ) → ((k : Kind) → Names mode octets k → ⊥)
