@@ -11,12 +11,14 @@ ghost use Rattle.rpki_routes.specs.Aspa.Form.{AspaForm};
 ghost use Rattle.rpki_routes.specs.Roa.Checks.{roa_kind};
 ghost use Rattle.rpki_routes.specs.Roa.Form.{RoaForm};
 ghost use Rattle.rpki_check.specs.Calls.{IsObjectCall, IsShowCall};
+ghost use Rattle.rpki_check.specs.Edition.{IsEditionCall};
 ghost use Rattle.rpki_check.specs.Files.{IsFilesCall, checked_files, listed_files};
 ghost use Rattle.rpki_check.specs.Grounds.{manner_in};
 ghost use Rattle.rpki_check.specs.Many.{IsManyCall};
 ghost use Rattle.rpki_check.specs.Numbers.{IsVerdict, version};
 ghost use Rattle.rpki_check.specs.Rows.{IsRowsCall, numbers, payloads};
 
+use crate::edition::{Edition, edition_in};
 use crate::files::{Entry, files_in};
 use crate::many::{Object, judge};
 use crate::numbers::{GOOD, NO_MEMORY, VERSION, verification_number};
@@ -142,6 +144,22 @@ pub extern "C" fn rpki_check_manifest(
         len.new result }
 {
     files_in::<ManifestContent>(alloc, question, object, room, count, octets, len)
+}
+
+/// Whether octets begin with a good manifest: its number and its moments.
+#[unsafe(no_mangle)]
+pub extern "C" fn rpki_check_edition(
+    alloc: Global,
+    question: &Question<'_>,
+    object: &[u8],
+    edition: &mut Edition,
+    room: &mut [u8],
+    len: &mut usize,
+) -> u32
+    ensures { IsEditionCall question.now object.now edition.old edition.new room.old room.new len.new
+        result }
+{
+    edition_in(alloc, question, object, edition, room, len)
 }
 
 /// Whether octets begin with a good checklist: the files that it lists.

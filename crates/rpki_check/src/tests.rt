@@ -2,9 +2,11 @@
 
 mod octets;
 
+use crate::edition::Edition;
 use crate::exports::{
-    rpki_check_aspa, rpki_check_checklist, rpki_check_manifest, rpki_check_object,
-    rpki_check_objects, rpki_check_roa, rpki_check_show, rpki_check_signature, rpki_check_version,
+    rpki_check_aspa, rpki_check_checklist, rpki_check_edition, rpki_check_manifest,
+    rpki_check_object, rpki_check_objects, rpki_check_roa, rpki_check_show, rpki_check_signature,
+    rpki_check_version,
 };
 use crate::files::Entry;
 use crate::many::Object;
@@ -189,6 +191,30 @@ fn files_are_those_of_the_content(rt: HostRuntime) {
     );
     assert_eq!(rt; (status, count, rows[0].named), (0, 2, 1));
     assert_eq!(rt; rows[0].hash_length, 32);
+}
+
+#[test]
+fn a_manifest_has_a_number_and_moments(rt: HostRuntime) {
+    let question = asked(2027, &[]);
+    let mut edition = Edition {
+        this_update: 7,
+        next_update: 7,
+    };
+    let mut room = [0; 40];
+    let mut len = 0;
+    let alloc = rt.alloc();
+    let status = rpki_check_edition(alloc, &question, ORIGIN, &mut edition, &mut room, &mut len);
+    assert_eq!(rt; (status, len, edition.this_update), (100, 0, 7));
+    let status = rpki_check_edition(
+        alloc,
+        &question,
+        MANIFEST,
+        &mut edition,
+        &mut room,
+        &mut len,
+    );
+    assert_eq!(rt; (status, len, room[0]), (0, 1, b'1'));
+    assert_eq!(rt; edition.this_update < edition.next_update, true);
 }
 
 #[test]
