@@ -129,14 +129,14 @@ pub trait Listing: Lines {
     ghost files_of: { Self → List Named };
 
     /// Their table.
-    fn table(&self, alloc: Global) -> Result<Table, AllocError>
+    fn in_table(&self, alloc: Global) -> Result<Table, AllocError>
         ensures { IfOk result (λ t. IsTable t (files_of self.now)) };
 }
 
 impl Listing for ManifestContent {
     ghost files_of = { listed_files };
 
-    fn table(&self, alloc: Global) -> Result<Table, AllocError> {
+    fn in_table(&self, alloc: Global) -> Result<Table, AllocError> {
         listed_files(alloc, self)
     }
 }
@@ -144,7 +144,7 @@ impl Listing for ManifestContent {
 impl Listing for ResourceSignedChecklist {
     ghost files_of = { checked_files };
 
-    fn table(&self, alloc: Global) -> Result<Table, AllocError> {
+    fn in_table(&self, alloc: Global) -> Result<Table, AllocError> {
         checked_files(alloc, self)
     }
 }
@@ -166,7 +166,7 @@ fn put_files<T: Listing>(
             put_both(&[], &[], room, count, place, len);
             refusal.number()
         }
-        Ok(content) => match content.table(alloc) {
+        Ok(content) => match content.in_table(alloc) {
             Err(_) => {
                 put_both(&[], &[], room, count, place, len);
                 NO_MEMORY

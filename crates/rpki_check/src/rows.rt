@@ -96,7 +96,7 @@ pub trait Rows: Lines {
     ghost rows_of: { Self → List Self.Row };
 
     /// Its rows.
-    fn rows(&self, alloc: Global) -> Result<Vec<Self::Row>, AllocError>
+    fn in_rows(&self, alloc: Global) -> Result<Vec<Self::Row>, AllocError>
         ensures { IfOk result (λ all. all.items ≡ rows_of self.now) };
 }
 
@@ -105,7 +105,7 @@ impl Rows for RouteOriginAttestation {
 
     ghost rows_of = { payloads };
 
-    fn rows(&self, alloc: Global) -> Result<Vec<Payload>, AllocError> {
+    fn in_rows(&self, alloc: Global) -> Result<Vec<Payload>, AllocError> {
         payloads_of(alloc, self)
     }
 }
@@ -115,7 +115,7 @@ impl Rows for AsProviderAttestation {
 
     ghost rows_of = { numbers };
 
-    fn rows(&self, alloc: Global) -> Result<Vec<u32>, AllocError> {
+    fn in_rows(&self, alloc: Global) -> Result<Vec<u32>, AllocError> {
         numbers_of(alloc, self)
     }
 }
@@ -134,7 +134,7 @@ fn put_rows<T: Rows>(
             put(&[], room, count);
             refusal.number()
         }
-        Ok(content) => match content.rows(alloc) {
+        Ok(content) => match content.in_rows(alloc) {
             Err(_) => {
                 put(&[], room, count);
                 NO_MEMORY
