@@ -15,7 +15,7 @@
 #include <stdlib.h>
 #include <string.h>
 
-enum { CALLS = 8, ROOM = 1 << 16, ROUNDS = 50, THREADS = 8, STACK = 128 * 1024, OBJECTS = 16 };
+enum { CALLS = 8, ROOM = 1 << 16, ROUNDS = 20, THREADS = 8, STACK = 128 * 1024, OBJECTS = 16 };
 
 /* ---- memory: the allocation with this number is refused, and what is open is counted */
 
