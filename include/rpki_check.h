@@ -1,4 +1,5 @@
-/* rpki_check.h - checks of signed objects of the RPKI, by proved code; link with -lrpki_check
+/* rpki_check.h - checks of signed objects of the RPKI, by proved code; link with -lrpki_check,
+ * librpki_check.so.0 or librpki_check.a.
  *
  * A call reads what it is lent, writes into what it is lent, and keeps nothing:
  * there is no state, nothing to set up and nothing to free. Calls may run in
@@ -31,13 +32,13 @@ uint32_t rpki_check_version(void);
  * each is its text. */
 enum rpki_status {
 	RPKI_GOOD = 0,          /* the octets begin with a good object */
-	RPKI_NO_MEMORY = 1,     /* memory ran out: nothing is said of the octets */
+	RPKI_NO_MEMORY = 1,     /* memory ran out: nothing is said of the octets; the text is
+	                         * "out of memory", or none where memory lacked for it */
 	RPKI_NO_MOMENT = 2,     /* "no such moment": the date is none */
-	RPKI_NO_KIND = 3,       /* no kind has this number, or the object names none (RPKI_NAMED) */
+	RPKI_NO_KIND = 3,       /* no kind has this number, or the object names none: no text */
 	RPKI_NO_LIST = 4,       /* "no revocation list": one of the lists is none */
 	RPKI_MALFORMED = 100,   /* "malformed", or a rule of the format that is broken:
 	                         * the octets begin with no object of the kind */
-
 	/* The object or its certificate does not fit the profile. */
 	RPKI_SID_MISMATCH = 201,         /* Subject Key Identifier mismatch in signed object */
 	RPKI_KEY_IDENTIFIER = 202,       /* key identifier mismatch */
@@ -60,7 +61,6 @@ enum rpki_status {
 	RPKI_AS_NOT_COVERED = 219,       /* AS resources not covered */
 	RPKI_V4_NOT_COVERED = 220,       /* IPv4 resources not covered */
 	RPKI_V6_NOT_COVERED = 221,       /* IPv6 resources not covered */
-
 	/* It fits the profile, and is not good under its issuer at the moment. */
 	RPKI_DIGEST_MISMATCH = 301,      /* message digest mismatch in signed object */
 	RPKI_SIGNING_TIME = 302,         /* signing time is after not_after validity time */
@@ -83,7 +83,7 @@ enum rpki_status {
 	RPKI_NO_V6_COVERED = 319,        /* no IPv6 ROA prefix covered by certificate */
 	RPKI_UNCOVERED_PREFIX = 320,     /* ROA prefix 192.0.2.0/24 not covered by certificate */
 	RPKI_CHECKLIST_NOT_HELD = 321,   /* checklist resources not held */
-	RPKI_MANIFEST_HASH = 322,        /* manifest hash mismatch */
+	RPKI_MANIFEST_HASH = 322,        /* manifest hash mismatch (no call answers it) */
 	RPKI_UNKNOWN_KEY = 323,          /* public key not found in chain */
 	RPKI_SIGNER_DIGEST = 324,        /* message digest mismatch */
 	RPKI_MISSING_CERTIFICATE = 325,  /* missing certificate */
@@ -99,7 +99,6 @@ enum rpki_status {
 	RPKI_AS_NOT_FULLY_COVERED = 335, /* AS resources not fully covered */
 	RPKI_IP_NOT_FULLY_COVERED = 336, /* IP resources not fully covered */
 	RPKI_REVOKED = 337,              /* refused by the caller (a list revokes its certificate) */
-
 	/* The certificates of the question make no issuer: 1000 more than the numbers
 	 * above, as 1100 where one is malformed or 1306 where one has expired. */
 	RPKI_OF_ISSUER = 1000
@@ -110,7 +109,8 @@ enum rpki_kind {
 	RPKI_ROA = 1,         /* RFC 9582 */
 	RPKI_ASPA = 2,        /* draft-ietf-sidrops-aspa-profile-15 */
 	RPKI_MANIFEST = 3,    /* RFC 9286 */
-	RPKI_CHECKLIST = 4    /* RFC 9323 */
+	RPKI_CHECKLIST = 4,   /* RFC 9323 */
+	RPKI_ATTESTATION = 5  /* draft-michaelson-rpki-rta; always in DER */
 };
 
 /* Octets, lent. */
@@ -135,30 +135,25 @@ typedef struct rpki_question {
 /* Checks an object of a kind. The answer is RPKI_GOOD exactly if the certificates
  * make an issuer (RFC 6487, section 7.2), the octets begin with an object of the
  * kind that is good under it at the moment, and no list revokes a certificate of
- * the chain or that of the object; unless memory runs out. Octets after the object
- * are ignored. The times of lists are not looked at.
+ * the chain or that of the object; unless memory runs out. Else it is the number of
+ * the first check that fails. Octets after the object are ignored. The times of lists
+ * are not looked at. Of an attestation, the issuer is the one CA under which it may be
+ * granted, and lists count for its certificates.
  *
  * The text is what a good object says, a line an item, as `rpki_verify check` has
  * them below its yes, or why there is none. It is UTF-8 without a 0 at its end.
  *
- * *length is always the length of the whole text. The text is written if it fits
- * into the room, and else nothing is: call again with a room of *length octets,
+ * *length is always the length of the whole text; it and the room are in octets. The
+ * text is written if it fits, and else nothing is: call again with a room of *length,
  * which gives the same answer. A room of NULL and 0 asks for the status alone. */
-uint32_t rpki_check_object(const rpki_question *question, uint32_t kind,
-    const uint8_t *object, size_t object_length,
-    char *text, size_t room, size_t *length);
-
-/* Checks a multi-signed attestation in the same way. The issuer that the certificates
- * make is the one CA under which it may be granted; lists count for its certificates. */
-uint32_t rpki_check_attestation(const rpki_question *question,
-    const uint8_t *object, size_t object_length,
-    char *text, size_t room, size_t *length);
+uint32_t rpki_check_object(const rpki_question *question, uint32_t kind, const uint8_t *object,
+    size_t object_length, char *text, size_t room, size_t *length);
 
 /* What an object of a kind says, without a check: RPKI_GOOD says only that the octets
- * begin with one. Of the question, the options alone are looked at. */
-uint32_t rpki_check_show(const rpki_question *question, uint32_t kind,
-    const uint8_t *object, size_t object_length,
-    char *text, size_t room, size_t *length);
+ * begin with one. Of the question, the options alone are looked at. The room is in
+ * octets. */
+uint32_t rpki_check_show(const rpki_question *question, uint32_t kind, const uint8_t *object,
+    size_t object_length, char *text, size_t room, size_t *length);
 
 /* Octets that are to begin with an object of a kind. */
 typedef struct rpki_object { uint32_t kind; rpki_octets octets; } rpki_object;
@@ -166,11 +161,10 @@ typedef struct rpki_object { uint32_t kind; rpki_octets octets; } rpki_object;
 /* Checks many objects on one question, whose certificates and lists are read once.
  * The answer is RPKI_GOOD with *count = objects_length and a status of each object,
  * as rpki_check_object answers it, or the number of what is wrong with the question
- * with *count = 0. The statuses are written if all fit into the room, and else none:
- * read them only if the answer is RPKI_GOOD and *count <= room. */
-uint32_t rpki_check_objects(const rpki_question *question,
-    const rpki_object *objects, size_t objects_length,
-    uint32_t *statuses, size_t room, size_t *count);
+ * with *count = 0. The room is counted in statuses. They are written if all fit, and
+ * else none: read them only if the answer is RPKI_GOOD and *count <= room. */
+uint32_t rpki_check_objects(const rpki_question *question, const rpki_object *objects,
+    size_t objects_length, uint32_t *statuses, size_t room, size_t *count);
 
 /* A prefix that an AS may originate. */
 typedef struct rpki_payload {
@@ -183,47 +177,57 @@ typedef struct rpki_payload {
 } rpki_payload;
 
 /* Checks a ROA, as rpki_check_object does with RPKI_ROA. *count is the number of its
- * prefixes, 0 if it is not good; they are written if all fit into the room, IPv4
- * first, in the order of the ROA, and else none is. */
-uint32_t rpki_check_roa(const rpki_question *question,
-    const uint8_t *object, size_t object_length,
-    rpki_payload *payloads, size_t room, size_t *count);
+ * prefixes, 0 if it is not good. The room is counted in prefixes; they are written if
+ * all fit, IPv4 first, in the order of the ROA, and else none is. */
+uint32_t rpki_check_roa(const rpki_question *question, const uint8_t *object,
+    size_t object_length, rpki_payload *payloads, size_t room, size_t *count);
 
-/* Checks an ASPA in the same way. The numbers are the customer and then its
- * providers, in ascending order. */
-uint32_t rpki_check_aspa(const rpki_question *question,
-    const uint8_t *object, size_t object_length,
-    uint32_t *numbers, size_t room, size_t *count);
+/* Checks an ASPA in the same way. The numbers, in which the room is counted, are the
+ * customer and then its providers, in ascending order. */
+uint32_t rpki_check_aspa(const rpki_question *question, const uint8_t *object,
+    size_t object_length, uint32_t *numbers, size_t room, size_t *count);
+
+/* What a manifest says of itself: when it was made and when the next one is due, as
+ * rpki_stamp_of has moments. */
+typedef struct rpki_edition { uint64_t this_update, next_update; } rpki_edition;
+
+/* Checks a manifest in the same way. Its moments are written if it is good, and then its
+ * number, in lower hexadecimal, at most 40 digits, if it fits: the room is in octets. */
+uint32_t rpki_check_edition(const rpki_question *question, const uint8_t *object,
+    size_t object_length, rpki_edition *edition, char *number, size_t room, size_t *length);
 
 /* A file of a manifest or a checklist: where its name and its hash stand among the
  * octets that are written with it; named is 0 if a checklist gives no name, and else 1. */
 typedef struct rpki_file { size_t name, name_length, hash, hash_length, named; } rpki_file;
 
-/* Check a manifest and a checklist in the same way, with two rooms: for *count files,
- * in their order, and for the *length octets in which names and hashes stand. Each is
- * written if all of it fits, and else not. */
-uint32_t rpki_check_manifest(const rpki_question *question,
-    const uint8_t *object, size_t object_length,
-    rpki_file *files, size_t room, size_t *count,
-    uint8_t *octets, size_t octets_room, size_t *length);
-uint32_t rpki_check_checklist(const rpki_question *question,
-    const uint8_t *object, size_t object_length,
-    rpki_file *files, size_t room, size_t *count,
-    uint8_t *octets, size_t octets_room, size_t *length);
+/* Check a manifest and a checklist in the same way, with two rooms: one, counted in
+ * files, for *count of them in their order, and one, counted in octets, for the *length
+ * octets in which names and hashes stand. Each is written if all of it fits, else not. */
+uint32_t rpki_check_manifest(const rpki_question *question, const uint8_t *object,
+    size_t object_length, rpki_file *files, size_t room, size_t *count, uint8_t *octets,
+    size_t octets_room, size_t *length);
+uint32_t rpki_check_checklist(const rpki_question *question, const uint8_t *object,
+    size_t object_length, rpki_file *files, size_t room, size_t *count, uint8_t *octets,
+    size_t octets_room, size_t *length);
 
 /* Whether a signature of a message is one by RSASSA-PKCS1-v1_5 with SHA-256 by
  * this key, the bits of a subjectPublicKey, of 2048 to 4096 bits with exponent
  * 65537: RPKI_GOOD or RPKI_BAD_SIGNATURE, unless memory runs out. */
-uint32_t rpki_check_signature(const uint8_t *key, size_t key_length,
-    const uint8_t *message, size_t message_length,
-    const uint8_t *signature, size_t signature_length);
+uint32_t rpki_check_signature(const uint8_t *key, size_t key_length, const uint8_t *message,
+    size_t message_length, const uint8_t *signature, size_t signature_length);
+
+/* A number that grows with time, and is another one for each moment. */
+static inline uint64_t rpki_stamp_of(rpki_moment m)
+{
+	return ((((m.year * UINT64_C(13) + m.month) * 32 + m.day) * 24 + m.hour) * 60 + m.minute) * 60
+	    + m.second;
+}
 
 /* The moment of a time in seconds since 1970; year 10000 (no moment) if it has none. */
 static inline rpki_moment rpki_moment_of(int64_t seconds)
 {
 	rpki_moment m = { 10000, 0, 0, 0, 0, 0 };
 	uint32_t days, day, year, rest, month, second;
-
 	if (seconds < 0 || seconds >= INT64_C(253402300800))
 		return m;
 	days = (uint32_t)(seconds / 86400) + 719468;    /* since 1 March of the year 0 */
@@ -235,8 +239,7 @@ static inline rpki_moment rpki_moment_of(int64_t seconds)
 	m.year = (uint16_t)(days / 146097 * 400 + year + (month >= 10));
 	m.month = (uint8_t)(month < 10 ? month + 3 : month - 9);
 	m.day = (uint8_t)(rest - (153 * month + 2) / 5 + 1);
-	m.hour = (uint8_t)(second / 3600);
-	m.minute = (uint8_t)(second / 60 % 60);
+	m.hour = (uint8_t)(second / 3600), m.minute = (uint8_t)(second / 60 % 60);
 	m.second = (uint8_t)(second % 60);
 	return m;
 }

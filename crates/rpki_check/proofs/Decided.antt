@@ -12,21 +12,25 @@ use Rattle.rpki_faults.specs.declared.validation.ValidationError.{ValidationErro
 use Rattle.rpki_faults.specs.declared.validation.ValidationError.TheVariants as validation
 use Rattle.rpki_faults.specs.declared.verification.VerificationError.{VerificationError}
 use Rattle.rpki_faults.specs.declared.verification.VerificationError.TheVariants as faults
+use Rattle.rpki_basics.specs.Moment.{Moment}
 use Rattle.rpki_certs.specs.Cert.{KeptCertificate}
+use Rattle.rpki_certs.specs.Validate.{Validated}
 use Rattle.rpki_certs.specs.declared.issuer.IssuerError.{IssuerError}
 use Rattle.rpki_certs.specs.declared.issuer.IssuerError.TheVariants as issuing
+use Rattle.rpki_crls.specs.Crl.{KeptCrl}
 use Rattle.rpki_rsa.specs.Signature.{is_rsa_signature}
 use Rattle.rpki_signed.proofs.Exactness.{headline}
-use Rattle.rpki_signed.specs.Headline.{IsMemory, SaysOne}
+use Rattle.rpki_signed.specs.Headline.{BeginsWithGood, IsMemory, SaysOne}
 use Rattle.rpki_signed.specs.declared.check.CheckError.{CheckError}
 use Rattle.rpki_signed.specs.declared.check.CheckError.TheVariants as checking
 use Rattle.rpki_sigobj.specs.Object.{mode_of}
 use Rattle.rpki_sigobj.specs.Signed.Kind.{ObjectKind}
 use Rattle.rpki_sigobj.specs.Signed.{cert_in}
-use Rattle.rpki_check.specs.Grounds.{manner_in}
+use Rattle.rpki_check.specs.Grounds.{AreSame, manner_in}
 use Rattle.rpki_check.specs.Numbers.{check_number, inspection_number, issuer_number, refusal_number}
-use Rattle.rpki_check.specs.Numbers.{status_of, verification_number}
-use Rattle.rpki_check.specs.Object.{IsDecided, IsFound, IsFoundIn, IsGoodFor, IsNotGoodFor, SaysOf}
+use Rattle.rpki_check.specs.Numbers.{no_memory, status_of, verification_number}
+use Rattle.rpki_check.specs.Object.{IsDecided, IsFound, IsFoundIn, IsGoodFor, ListsSay, SaysOf}
+use Rattle.rpki_check.proofs.Single.{not-refused, one-grounds}
 use Rattle.rpki_check.specs.declared.grounds.Grounds.{Grounds}
 use Rattle.rpki_check.specs.declared.question.Question.{Question}
 use Rattle.rpki_check.specs.declared.refusal.Refusal.{Refusal}
@@ -122,7 +126,7 @@ nonzero (Check fault) e = check-nonzero fault e
 
 -- ---- what lists say
 
-memory-number : (fault : CheckError) → IsMemory fault → check_number fault ≡ 1
+memory-number : (fault : CheckError) → IsMemory fault → check_number fault ≡ no_memory
 memory-number (checking.Decode fault) e =
     ap (λ (d : DecodeError). check_number (checking.Decode d)) e
 memory-number (checking.Validation fault) e =
@@ -151,34 +155,44 @@ module _ {X : Type 0} (kind : ObjectKind X) (form : List ℕ → X → Type 0) (
     are = f.are;
     good =
         (headline kind form (SaysOf f.grounds)).yes (mode_of (manner_in q).strict) sha256
-        is_rsa_signature f.grounds.issuer f.grounds.moment octets (f.found.0, x) f.found.1;
+        is_rsa_signature f.grounds.issuer f.grounds.moment octets (f.found.0, x) f.found.1.exact;
   }
   yes (Err refusal) h e = absurd (nonzero refusal e)
 
+  -- what is good on some grounds is good on the others
+  abbrev GoodOn : Moment → List KeptCrl → Validated → Type 0
+  GoodOn moment lists issuer = BeginsWithGood kind form (mode_of (manner_in q).strict) sha256
+      is_rsa_signature issuer moment (ListsSay lists issuer.cert.certificate) octets
+
+  carried : (g : IsGoodFor kind form q octets) (h : Grounds) → AreSame g.grounds h
+      → GoodOn h.moment h.lists.items h.issuer
+  carried g h same =
+      subst (λ (t : Moment). GoodOn t h.lists.items h.issuer) same.moment
+      (subst (λ (l : List KeptCrl). GoodOn g.grounds.moment l h.issuer) same.lists
+      (subst (λ (v : Validated). GoodOn g.grounds.moment g.grounds.lists.items v) same.issuer g.good))
+
   no-on : (refusal : Refusal) → IsFoundIn kind form q octets (Err refusal)
-      → ¬ (refusal_number refusal ≡ 1) → IsNotGoodFor kind form q octets
-  no-on Memory f m = absurd (m refl)
-  no-on NoMoment f m = absurd f.found
-  no-on NoList f m = absurd f.found
-  no-on (Issuer fault) f m = absurd f.found
-  no-on (Check fault) f m = inr (record {
-    grounds = f.grounds;
-    are = f.are;
-    none = λ good.
-        (headline kind form (SaysOf f.grounds)).no (mode_of (manner_in q).strict) sha256
-        is_rsa_signature f.grounds.issuer f.grounds.moment octets fault f.found
-        (λ memory. m (memory-number fault memory)) good
-        (says-one f.grounds (cert_in (mode_of (manner_in q).strict) good.object));
-  })
+      → ¬ (refusal_number refusal ≡ no_memory) → ¬ IsGoodFor kind form q octets
+  no-on Memory f m g = m refl
+  no-on NoMoment f m g = f.found
+  no-on NoList f m g = f.found
+  no-on (Issuer fault) f m g = f.found
+  no-on (Check fault) f m g =
+      let good = carried g f.grounds (one-grounds q g.grounds f.grounds g.are f.are) in
+      (headline kind form (SaysOf f.grounds)).no (mode_of (manner_in q).strict) sha256
+      is_rsa_signature f.grounds.issuer f.grounds.moment octets fault f.found.exact
+      (λ memory. m (memory-number fault memory)) good
+      (says-one f.grounds (cert_in (mode_of (manner_in q).strict) good.object))
 
   no : (found : Result X Refusal) → IsFound kind form q octets found → ¬ (status_of found ≡ 0)
-      → ¬ (status_of found ≡ 1) → IsNotGoodFor kind form q octets
-  no (Ok x) h z m = absurd (z refl)
-  no (Err refusal) (inl h) z m =
+      → ¬ (status_of found ≡ no_memory) → ¬ IsGoodFor kind form q octets
+  no (Ok x) h z m g = z refl
+  no (Err refusal) (inl h) z m g =
       let same : Err refusal ≡ Err h.0 = h.2 in
       let is : refusal ≡ h.0 = cc in
-      inl (h.0, h.1, subst (λ (r : Refusal). ¬ (refusal_number r ≡ 1)) is m)
-  no (Err refusal) (inr f) z m = no-on refusal f m
+      not-refused q h.0 h.1
+      (subst (λ (r : Refusal). ¬ (refusal_number r ≡ no_memory)) is m) g.grounds g.are
+  no (Err refusal) (inr f) z m g = no-on refusal f m g
 
 -- statuses decide
 pub decided : {X : Type 0} (kind : ObjectKind X) (form : List ℕ → X → Type 0) → IsDecided kind form

@@ -5,7 +5,7 @@ use Rattle.std.specs.List.{flat_map}
 use Rattle.rpki_files.specs.Checklist.{Checklist}
 use Rattle.rpki_files.specs.Manifest.{Manifest}
 use Rattle.rpki_sigobj.specs.Signed.Kind.{ObjectKind}
-use Rattle.rpki_check.specs.Numbers.{refusal_number}
+use Rattle.rpki_check.specs.Numbers.{no_memory, refusal_number}
 use Rattle.rpki_check.specs.Object.{IsFound}
 use Rattle.rpki_check.specs.Room.{IsInRoom}
 use Rattle.rpki_check.specs.declared.files.Entry.{Entry}
@@ -75,7 +75,7 @@ pub record AreWritten (rows old new : List Entry) (count : ℕ) (octets before a
 abbrev pub AreFilesPut : {X : Type 0} → (X → List Named) → Result X Refusal → List Entry → List Entry
     → ℕ → List ℕ → List ℕ → ℕ → ℕ → Type 0
 AreFilesPut files (Ok x) old new count before after len status =
-    ((status ≡ 1) × AreWritten [] old new count [] before after len)
+    ((status ≡ no_memory) × AreWritten [] old new count [] before after len)
     ⊎ ((status ≡ 0) × AreWritten (entries_at 0 (files x)) old new count
     (flat_map file_octets (files x)) before after len)
 AreFilesPut files (Err refusal) old new count before after len status =

@@ -12,7 +12,7 @@ use Rattle.rpki_basics.specs.declared.limits.ProviderLimit.TheVariants.{Narrow, 
 use Rattle.rpki_faults.specs.declared.validation.ValidationError.TheVariants.{Verification}
 use Rattle.rpki_faults.specs.declared.verification.VerificationError.TheVariants as faults
 use Rattle.rpki_certs.specs.Issuer.{IsIssued, MakesIssuer, Then}
-use Rattle.rpki_certs.specs.Validate.{Validated}
+use Rattle.rpki_certs.specs.Validate.{AreCanonical, Validated}
 use Rattle.rpki_certs.specs.declared.issuer.IssuerError.{IssuerError}
 use Rattle.rpki_certs.specs.declared.issuer.IssuerError.TheVariants.{Validation}
 use Rattle.rpki_crls.specs.Crl.{CrlForm, KeptCrl}
@@ -46,11 +46,12 @@ manner_in q = record {
 }
 
 -- What is answered of the certificate of a CA under this issuer: it, if it is valid (`IsIssued`) and
--- no list revokes it; and else why not.
+-- no list revokes it, with each set of its numbers in the one way to write it; and else why not.
 abbrev pub IsNextCa : List KeptCrl → Moment → Validated → List ℕ → Result Validated IssuerError
     → Type 0
 IsNextCa lists now issuer octets (Ok next) = IsIssued is_rsa_signature now issuer octets (Ok next)
     × IsUnrevoked lists issuer.cert.certificate next.cert.certificate
+    × AreCanonical next.sets
 IsNextCa lists now issuer octets (Err fault) = IsIssued is_rsa_signature now issuer octets (Err fault)
     ⊎ ((fault ≡ Validation (Verification faults.Revoked))
     × ((next : Validated) × IsIssued is_rsa_signature now issuer octets (Ok next)
@@ -76,7 +77,7 @@ IsIssuerOf lists now anchor chain result =
 
 -- The octets begin with these lists, one each.
 abbrev pub AreLists : List Octets → List KeptCrl → Type 0
-AreLists octets lists = AllZip (λ o l. IsList o.octets.now l.list) octets lists
+AreLists octets lists = AllZip (λ o l. IsList o.octets.now l) octets lists
 
 -- These are the grounds of a question: there is its moment, its lists are these, and its
 -- certificates make this issuer, none of which a list revokes.
@@ -85,6 +86,12 @@ pub record AreGroundsOf (q : Question) (g : Grounds) : Type 0 where
   pub moment : g.moment ≡ moment_in q.moment
   pub lists : AreLists q.lists.now g.lists.items
   pub issuer : IsIssuerOf g.lists.items g.moment q.anchor.now q.chain.now (Ok g.issuer)
+
+-- Both have one moment, the same lists and one issuer.
+pub record AreSame (g h : Grounds) : Type 0 where
+  pub moment : g.moment ≡ h.moment
+  pub lists : g.lists.items ≡ h.lists.items
+  pub issuer : g.issuer ≡ h.issuer
 
 -- The lists and the moment of a question are these, and its certificates make no issuer for this
 -- fault.

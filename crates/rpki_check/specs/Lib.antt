@@ -1,4 +1,6 @@
 pub mod Attestation
+pub mod Calls
+pub mod Edition
 pub mod Files
 pub mod Grounds
 pub mod Kinds

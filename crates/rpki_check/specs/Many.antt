@@ -4,13 +4,15 @@ use Rattle.std.specs.List.{AllZip}
 use Rattle.rpki_der.specs.declared.mode.Mode.{Mode}
 use Rattle.rpki_sigobj.specs.Object.{mode_of}
 use Rattle.rpki_sigobj.specs.Signed.Kind.{ObjectKind}
+use Rattle.rpki_multi.specs.Attestation.{KeptWhole}
+use Rattle.rpki_check.specs.Attestation.{IsGrantedOn}
 use Rattle.rpki_check.specs.Grounds.{AreGroundsOf, HasNoGrounds, manner_in}
-use Rattle.rpki_check.specs.Kinds.{AsksFor, OfKind}
-use Rattle.rpki_check.specs.Numbers.{refusal_number, status_of}
+use Rattle.rpki_check.specs.Kinds.{AsksFor, OfAsked}
+use Rattle.rpki_check.specs.Numbers.{no_kind, no_memory, refusal_number, status_of}
 use Rattle.rpki_check.specs.Object.{IsFoundOn}
 use Rattle.rpki_check.specs.Room.{IsInRoom}
 use Rattle.rpki_check.specs.declared.grounds.Grounds.{Grounds}
-use Rattle.rpki_check.specs.declared.kinds.Kind.{Kind}
+use Rattle.rpki_check.specs.declared.kinds.Asked.{Asked}
 use Rattle.rpki_check.specs.declared.many.Object.{Object}
 use Rattle.rpki_check.specs.declared.question.Manner.{Manner}
 use Rattle.rpki_check.specs.declared.question.Question.{Question}
@@ -22,15 +24,21 @@ abbrev pub IsStatusAs : {X : Type 0} → ObjectKind X → (List ℕ → X → Ty
 IsStatusAs {X} kind form mode g octets status = (found : Result X Refusal)
     × IsFoundOn kind form mode g octets found × (status ≡ status_of found)
 
--- the status of an object: that of its kind, or 3 where its number asks for none, unless memory ran
--- out
+-- the status of an attestation on these grounds: that of what is found
+abbrev pub IsGrantStatus : Grounds → List ℕ → ℕ → Type 0
+IsGrantStatus g octets status = (found : Result KeptWhole Refusal)
+    × IsGrantedOn g octets found × (status ≡ status_of found)
+
+-- the status of an object: that of what its number asks for, or that there is no such kind, unless
+-- memory ran out
 abbrev pub IsStatusOn : Manner → Grounds → Object → ℕ → Type 0
 IsStatusOn m g o status =
-    ((status ≡ 1)
-    ⊎ ((status ≡ 3) × ((k : Kind) → AsksFor (mode_of m.strict) o.kind o.octets.now k → ⊥)))
-    ⊎ ((k : Kind) × AsksFor (mode_of m.strict) o.kind o.octets.now k
-    × OfKind m k (λ X asked form lines.
-    IsStatusAs asked form (mode_of m.strict) g o.octets.now status))
+    ((status ≡ no_memory)
+    ⊎ ((status ≡ no_kind) × ((a : Asked) → AsksFor (mode_of m.strict) o.kind o.octets.now a → ⊥)))
+    ⊎ ((a : Asked) × AsksFor (mode_of m.strict) o.kind o.octets.now a
+    × OfAsked m a (λ X asked form lines.
+    IsStatusAs asked form (mode_of m.strict) g o.octets.now status)
+    (IsGrantStatus g o.octets.now status))
 
 -- A question has grounds, and these are the statuses of objects on them, one each, in their order.
 pub record AreJudged (q : Question) (objects : List Object) (statuses : List ℕ) : Type 0 where
@@ -42,7 +50,7 @@ pub record AreJudged (q : Question) (objects : List Object) (statuses : List ℕ
 -- grounds, unless memory ran out.
 abbrev pub IsManyCall : Question → List Object → List ℕ → List ℕ → ℕ → ℕ → Type 0
 IsManyCall q objects old new count status =
-    ((status ≡ 1) × IsInRoom [] old new count)
+    ((status ≡ no_memory) × IsInRoom [] old new count)
     ⊎ (((refusal : Refusal) × HasNoGrounds q refusal × (status ≡ refusal_number refusal)
     × IsInRoom [] old new count)
     ⊎ ((statuses : List ℕ) × AreJudged q objects statuses × (status ≡ 0)

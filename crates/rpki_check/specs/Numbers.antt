@@ -17,6 +17,34 @@ use Rattle.rpki_check.specs.declared.refusal.Refusal.{Refusal}
 use Rattle.rpki_check.specs.declared.refusal.Refusal.TheVariants.{Check, Issuer, Memory}
 use Rattle.rpki_check.specs.declared.refusal.Refusal.TheVariants.{NoList, NoMoment}
 
+-- the version of the calls, 1.0
+abbrev pub version : ℕ
+version = 0x10000
+
+-- memory ran out
+abbrev pub no_memory : ℕ
+no_memory = 1
+
+-- the date is none
+abbrev pub no_moment : ℕ
+no_moment = 2
+
+-- no kind has this number, or the object names none
+abbrev pub no_kind : ℕ
+no_kind = 3
+
+-- one of the revocation lists is none
+abbrev pub no_list : ℕ
+no_list = 4
+
+-- the octets begin with no object of the kind
+abbrev pub malformed : ℕ
+malformed = 100
+
+-- how much more the number of a fault is where it is one of the certificates of a question
+abbrev pub of_issuer : ℕ
+of_issuer = 1000
+
 -- of what does not fit the profile
 abbrev pub inspection_number : InspectionError → ℕ
 inspection_number profile.SidMismatch = 201
@@ -81,30 +109,31 @@ verification_number faults.AsNotFullyCovered = 335
 verification_number faults.IpNotFullyCovered = 336
 verification_number faults.Caller = 337
 
--- of why an object is not good: 1 where memory ran out, and 100 where octets begin with none
+-- of why an object is not good
 abbrev pub check_number : CheckError → ℕ
-check_number (checking.Decode decoding.Memory) = 1
-check_number (checking.Decode decoding.Malformed) = 100
-check_number (checking.Decode (decoding.Content fault)) = 100
-check_number (checking.Validation validation.Memory) = 1
+check_number (checking.Decode decoding.Memory) = no_memory
+check_number (checking.Decode decoding.Malformed) = malformed
+check_number (checking.Decode (decoding.Content fault)) = malformed
+check_number (checking.Validation validation.Memory) = no_memory
 check_number (checking.Validation (validation.Inspection fault)) = inspection_number fault
 check_number (checking.Validation (validation.Verification fault)) = verification_number fault
 
 -- of why certificates make no issuer: a thousand more than of an object
 abbrev pub issuer_number : IssuerError → ℕ
-issuer_number (issuing.Decode decoding.Memory) = 1
-issuer_number (issuing.Decode decoding.Malformed) = 1100
-issuer_number (issuing.Decode (decoding.Content fault)) = 1100
-issuer_number (issuing.Validation validation.Memory) = 1
-issuer_number (issuing.Validation (validation.Inspection fault)) = 1000 + inspection_number fault
+issuer_number (issuing.Decode decoding.Memory) = no_memory
+issuer_number (issuing.Decode decoding.Malformed) = of_issuer + malformed
+issuer_number (issuing.Decode (decoding.Content fault)) = of_issuer + malformed
+issuer_number (issuing.Validation validation.Memory) = no_memory
+issuer_number (issuing.Validation (validation.Inspection fault)) =
+    of_issuer + inspection_number fault
 issuer_number (issuing.Validation (validation.Verification fault)) =
-    1000 + verification_number fault
+    of_issuer + verification_number fault
 
 -- of a refusal
 abbrev pub refusal_number : Refusal → ℕ
-refusal_number Memory = 1
-refusal_number NoMoment = 2
-refusal_number NoList = 4
+refusal_number Memory = no_memory
+refusal_number NoMoment = no_moment
+refusal_number NoList = no_list
 refusal_number (Check fault) = check_number fault
 refusal_number (Issuer fault) = issuer_number fault
 
@@ -113,9 +142,11 @@ abbrev pub status_of : {X : Type 0} → Result X Refusal → ℕ
 status_of (Ok x) = 0
 status_of (Err refusal) = refusal_number refusal
 
--- what a call answers of a signature: 0 exactly if it is one, and else 303, unless memory ran out
+-- what a call answers of a signature: 0 exactly if it is one, and else that of a bad signature, unless
+-- memory ran out
 abbrev pub IsVerdict : List ℕ → List ℕ → List ℕ → ℕ → Type 0
 IsVerdict key message signature status =
-    (status ≡ 1)
+    (status ≡ no_memory)
     ⊎ (((status ≡ 0) × (is_rsa_signature key message signature ≡ true))
-    ⊎ ((status ≡ 303) × (is_rsa_signature key message signature ≡ false)))
+    ⊎ ((status ≡ verification_number faults.BadSignature)
+    × (is_rsa_signature key message signature ≡ false)))

@@ -10,13 +10,14 @@ use Rattle.rpki_certs.specs.Cert.{Certificate, KeptCertificate}
 use Rattle.rpki_certs.specs.Validate.{Validated}
 use Rattle.rpki_crls.specs.Crl.{KeptCrl}
 use Rattle.rpki_rsa.specs.Signature.{is_rsa_signature}
+use Rattle.rpki_signed.specs.Check.{Checks}
 use Rattle.rpki_signed.specs.Exact.{IsExact}
 use Rattle.rpki_signed.specs.Headline.{BeginsWithGood}
 use Rattle.rpki_signed.specs.declared.check.CheckError.{CheckError}
 use Rattle.rpki_sigobj.specs.Object.{mode_of}
 use Rattle.rpki_sigobj.specs.Signed.Kind.{ObjectKind}
 use Rattle.rpki_check.specs.Grounds.{AreGroundsOf, HasNoGrounds, manner_in}
-use Rattle.rpki_check.specs.Numbers.{refusal_number, status_of}
+use Rattle.rpki_check.specs.Numbers.{no_memory, status_of}
 use Rattle.rpki_check.specs.Revoked.{IsUnrevoked}
 use Rattle.rpki_check.specs.declared.grounds.Grounds.{Grounds}
 use Rattle.rpki_check.specs.declared.question.Question.{Question}
@@ -40,12 +41,16 @@ abbrev pub SaysAs : (KeptCertificate → Result (Unit {0}) ValidationError → T
 SaysAs Says g =
     (k : KeptCertificate) (said : Result (Unit {0}) ValidationError) → Says k said → SaysOf g k said
 
--- What a check of octets answers on these grounds (`IsExact`): digests are SHA-256, and signatures
--- RSASSA-PKCS1-v1_5 with SHA-256 (RFC 7935, section 2; RFC 8017, section 8.2.2).
-abbrev pub ChecksOn : {X : Type 0} → ObjectKind X → (List ℕ → X → Type 0) → Mode → Grounds → List ℕ
-    → Result (Validated × X) CheckError → Type 0
-ChecksOn kind form mode g octets result =
-    IsExact kind form mode sha256 is_rsa_signature g.issuer g.moment (SaysOf g) octets result
+-- What a check of octets answers on these grounds: a yes exactly if they begin with a good object
+-- (`IsExact`), and else the fault of the first check that fails (`Checks`), unless memory runs out.
+-- Digests are SHA-256, and signatures RSASSA-PKCS1-v1_5 with SHA-256 (RFC 7935, section 2; RFC 8017,
+-- section 8.2.2).
+pub record ChecksOn {X : Type 0} (kind : ObjectKind X) (form : List ℕ → X → Type 0) (mode : Mode)
+    (g : Grounds) (octets : List ℕ) (result : Result (Validated × X) CheckError) : Type 0 where
+  pub first : Checks kind form mode sha256 is_rsa_signature g.issuer g.moment (SaysOf g) octets
+      result
+  pub exact : IsExact kind form mode sha256 is_rsa_signature g.issuer g.moment (SaysOf g) octets
+      result
 
 -- what is found on these grounds: the content of a good object, or why there is none, unless memory
 -- ran out
@@ -83,26 +88,11 @@ pub record IsGoodFor {X : Type 0} (kind : ObjectKind X) (form : List ℕ → X �
   pub good : BeginsWithGood kind form (mode_of (manner_in q).strict) sha256 is_rsa_signature
       grounds.issuer grounds.moment (SaysOf grounds) octets
 
--- The question has grounds, and on them the octets begin with no good object.
-pub record IsNotGoodOn {X : Type 0} (kind : ObjectKind X) (form : List ℕ → X → Type 0)
-    (q : Question) (octets : List ℕ) : Type 0 where
-  pub grounds : Grounds
-  pub are : AreGroundsOf q grounds
-  pub none : ¬ BeginsWithGood kind form (mode_of (manner_in q).strict) sha256 is_rsa_signature
-      grounds.issuer grounds.moment (SaysOf grounds) octets
-
--- The question has no grounds, and not for want of memory, or the octets begin with no good object.
-abbrev pub IsNotGoodFor : {X : Type 0} → ObjectKind X → (List ℕ → X → Type 0) → Question → List ℕ
-    → Type 0
-IsNotGoodFor kind form q octets =
-    ((refusal : Refusal) × HasNoGrounds q refusal × (¬ (refusal_number refusal ≡ 1)))
-    ⊎ IsNotGoodOn kind form q octets
-
 -- The status of what is found of this kind is 0 exactly where the octets begin with a good object:
 -- where it is neither 0 nor 1, for want of memory, they begin with none.
 pub record IsDecided {X : Type 0} (kind : ObjectKind X) (form : List ℕ → X → Type 0) : Type 0 where
   pub yes : (q : Question) (octets : List ℕ) (found : Result X Refusal)
       → IsFound kind form q octets found → status_of found ≡ 0 → IsGoodFor kind form q octets
   pub no : (q : Question) (octets : List ℕ) (found : Result X Refusal)
-      → IsFound kind form q octets found → ¬ (status_of found ≡ 0) → ¬ (status_of found ≡ 1)
-      → IsNotGoodFor kind form q octets
+      → IsFound kind form q octets found → ¬ (status_of found ≡ 0)
+      → ¬ (status_of found ≡ no_memory) → ¬ IsGoodFor kind form q octets

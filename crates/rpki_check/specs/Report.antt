@@ -7,16 +7,11 @@ use Rattle.rpki_der.specs.declared.mode.Mode.{Mode}
 use Rattle.rpki_signed.specs.Check.{BeginsWith}
 use Rattle.rpki_signed.specs.Text.{check_text}
 use Rattle.rpki_signed.specs.declared.check.CheckError.TheVariants.{Decode}
-use Rattle.rpki_sigobj.specs.Object.{mode_of}
 use Rattle.rpki_sigobj.specs.Signed.Kind.{ObjectKind}
 use Rattle.rpki_sigobj.specs.Signed.{ObjectForm, Whole}
-use Rattle.rpki_check.specs.Grounds.{manner_in}
-use Rattle.rpki_check.specs.Kinds.{AsksFor, OfKind}
-use Rattle.rpki_check.specs.Numbers.{status_of}
+use Rattle.rpki_check.specs.Numbers.{no_memory, status_of}
 use Rattle.rpki_check.specs.Object.{IsFound}
 use Rattle.rpki_check.specs.Room.{IsInRoom}
-use Rattle.rpki_check.specs.declared.kinds.Kind.{Kind}
-use Rattle.rpki_check.specs.declared.question.Manner.{Manner}
 use Rattle.rpki_check.specs.declared.question.Question.{Question}
 use Rattle.rpki_check.specs.declared.refusal.Refusal.{Refusal}
 use Rattle.rpki_check.specs.declared.refusal.Refusal.TheVariants.{Check, Issuer, Memory}
@@ -39,7 +34,7 @@ text_of lines (Err refusal) = refusal_text refusal
 abbrev pub IsReported : {X : Type 0} → (X → List ℕ) → Result X Refusal → List ℕ → List ℕ → ℕ → ℕ
     → Type 0
 IsReported lines found old new len status =
-    ((status ≡ 1) × IsInRoom [] old new len)
+    ((status ≡ no_memory) × IsInRoom [] old new len)
     ⊎ ((status ≡ status_of found) × IsInRoom (text_of lines found) old new len)
 
 -- What a call leaves that asks about the object at the front of octets: what is found of it.
@@ -47,20 +42,6 @@ abbrev pub IsSaid : {X : Type 0} → ObjectKind X → (List ℕ → X → Type 0
     → List ℕ → List ℕ → List ℕ → ℕ → ℕ → Type 0
 IsSaid {X} kind form lines q octets old new len status = (found : Result X Refusal)
     × IsFound kind form q octets found × IsReported lines found old new len status
-
--- what a call leaves where a number asks for no kind, or memory ran out
-abbrev pub IsKindless : Mode → ℕ → List ℕ → List ℕ → List ℕ → ℕ → ℕ → Type 0
-IsKindless mode number octets old new len status =
-    ((status ≡ 1) ⊎ ((status ≡ 3) × ((k : Kind) → AsksFor mode number octets k → ⊥)))
-    × IsInRoom [] old new len
-
--- What it leaves for the kind that a number asks for, if there is one.
-abbrev pub IsObjectCall : Question → ℕ → List ℕ → List ℕ → List ℕ → ℕ → ℕ → Type 0
-IsObjectCall q number octets old new len status =
-    IsKindless (mode_of (manner_in q).strict) number octets old new len status
-    ⊎ ((k : Kind) × AsksFor (mode_of (manner_in q).strict) number octets k
-    × OfKind (manner_in q) k (λ X asked form lines.
-    IsSaid asked form lines q octets old new len status))
 
 -- ---- without a check
 
@@ -80,11 +61,3 @@ abbrev pub IsShown : {X : Type 0} → ObjectKind X → (List ℕ → X → Type 
     → List ℕ → List ℕ → List ℕ → ℕ → ℕ → Type 0
 IsShown {X} kind form lines mode octets old new len status = (read : Result X Refusal)
     × IsObjectRead kind form mode octets read × IsReported lines read old new len status
-
--- What it leaves for the kind that a number asks for, if there is one.
-abbrev pub IsShowCall : Manner → ℕ → List ℕ → List ℕ → List ℕ → ℕ → ℕ → Type 0
-IsShowCall m number octets old new len status =
-    IsKindless (mode_of m.strict) number octets old new len status
-    ⊎ ((k : Kind) × AsksFor (mode_of m.strict) number octets k
-    × OfKind m k (λ X asked form lines.
-    IsShown asked form lines (mode_of m.strict) octets old new len status))

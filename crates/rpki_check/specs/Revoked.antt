@@ -7,8 +7,9 @@ use Rattle.rpki_crls.specs.Crl.{CrlForm, IsSignedBy, KeptCrl, RevocationList}
 use Rattle.rpki_rsa.specs.Signature.{is_rsa_signature}
 
 -- The octets begin with this list, in DER, and with no other.
-abbrev pub IsList : List ℕ → RevocationList → Type 0
-IsList octets list = (rest : List ℕ) × IsOnlyFront (CrlForm Der) octets list rest
+abbrev pub IsList : List ℕ → KeptCrl → Type 0
+IsList octets k =
+    (k.mode ≡ Der) × ((rest : List ℕ) × IsOnlyFront (CrlForm Der) octets k.list rest)
 
 -- A list counts for an issuer: it states the identifier of the issuer's key, and that key signed it
 -- (RFC 6487, section 7.2; RFC 5280, sections 5.2.1 and 6.3.3). That its times are not looked at is

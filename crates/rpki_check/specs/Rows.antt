@@ -6,7 +6,7 @@ use Rattle.rpki_resources.specs.declared.family.AddressFamily.TheVariants.{Ipv4,
 use Rattle.rpki_routes.specs.Aspa.{Aspa}
 use Rattle.rpki_routes.specs.Roa.{FamilyAddress, Roa, addresses}
 use Rattle.rpki_sigobj.specs.Signed.Kind.{ObjectKind}
-use Rattle.rpki_check.specs.Numbers.{refusal_number}
+use Rattle.rpki_check.specs.Numbers.{no_memory, refusal_number}
 use Rattle.rpki_check.specs.Object.{IsFound}
 use Rattle.rpki_check.specs.Room.{IsInRoom}
 use Rattle.rpki_check.specs.declared.question.Question.{Question}
@@ -42,7 +42,7 @@ numbers a = a.customer ∷ a.providers
 abbrev pub IsPut : {X R : Type 0} → (X → List R) → Result X Refusal → List R → List R → ℕ → ℕ
     → Type 0
 IsPut rows (Ok x) old new count status =
-    ((status ≡ 1) × IsInRoom [] old new count)
+    ((status ≡ no_memory) × IsInRoom [] old new count)
     ⊎ ((status ≡ 0) × IsInRoom (rows x) old new count)
 IsPut rows (Err refusal) old new count status =
     (status ≡ refusal_number refusal) × IsInRoom [] old new count

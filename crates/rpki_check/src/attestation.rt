@@ -1,12 +1,14 @@
 //! Multi-signed attestations, where the issuer that certificates make is the CA that is supplied.
 
 ghost use Rattle.std.specs.Prelude.{◌≡◌, ◌↔◌, IfOk, IsTrue, string_bytes};
-ghost use Rattle.rpki_check.specs.Attestation.{GrantsOn, IsAttestationCall, IsAttestationFound};
+ghost use Rattle.rpki_check.specs.Attestation.{GrantsOn, IsAttestationFound, IsAttestationRead};
+ghost use Rattle.rpki_check.specs.Attestation.{IsAttestationSaid, IsAttestationShown};
 ghost use Rattle.rpki_check.specs.Attestation.{IsGrantedOn, IsOfIssuer, IsRevokedOf, IsUnrevokedOn};
 ghost use Rattle.rpki_check.specs.Attestation.{NoneIsRevoked, lines_of};
 ghost use Rattle.rpki_check.specs.Report.{IsReported, text_of};
 
 use crate::grounds::{Grounds, grounds_of};
+use crate::numbers::NO_MEMORY;
 use crate::question::Question;
 use crate::refusal::{Refusal, status_of};
 use crate::report::words_of;
@@ -74,7 +76,7 @@ fn check_granted(alloc: Global, octets: Bytes, grounds: &Grounds) -> Result<Rta,
 }
 
 /// What is found of octets on these grounds.
-fn granted_on(alloc: Global, octets: &[u8], grounds: &Grounds) -> Result<Rta, Refusal>
+pub fn granted_on(alloc: Global, octets: &[u8], grounds: &Grounds) -> Result<Rta, Refusal>
     ensures { IsGrantedOn grounds.now octets.now result }
 {
     let Ok(source) = Bytes::copy_from_slice(alloc, octets) else {
@@ -135,7 +137,7 @@ fn put_granted(alloc: Global, found: &Result<Rta, Refusal>, room: &mut [u8], len
     match text_of(alloc, found) {
         Err(_) => {
             put(b"", room, len);
-            1
+            NO_MEMORY
         }
         Ok(text) => {
             put(text.as_bytes(), room, len);
@@ -152,10 +154,33 @@ pub fn report_attestation(
     room: &mut [u8],
     len: &mut usize,
 ) -> u32
-    ensures { IsAttestationCall question.now octets.now room.old room.new len.new result }
+    ensures { IsAttestationSaid question.now octets.now room.old room.new len.new result }
 {
     let found = granted_in(alloc, question, octets);
     let status = put_granted(alloc, &found, room, len);
     drop(found);
+    status
+}
+
+/// The attestation that is read of octets, without a check.
+fn read_attestation(alloc: Global, octets: &[u8]) -> Result<Rta, Refusal>
+    ensures { IsAttestationRead octets.now result }
+{
+    let Ok(source) = Bytes::copy_from_slice(alloc, octets) else {
+        return Err(Refusal::Memory);
+    };
+    match Rta::decode(alloc, source) {
+        Ok(rta) => Ok(rta),
+        Err(fault) => Err(Refusal::Check(CheckError::Decode(fault))),
+    }
+}
+
+/// Puts what the attestation at the front of octets says, without a check.
+pub fn show_attestation(alloc: Global, octets: &[u8], room: &mut [u8], len: &mut usize) -> u32
+    ensures { IsAttestationShown octets.now room.old room.new len.new result }
+{
+    let read = read_attestation(alloc, octets);
+    let status = put_granted(alloc, &read, room, len);
+    drop(read);
     status
 }

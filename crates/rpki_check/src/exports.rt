@@ -10,32 +10,35 @@ ghost use Rattle.rpki_routes.specs.Aspa.Checks.{aspa_kind};
 ghost use Rattle.rpki_routes.specs.Aspa.Form.{AspaForm};
 ghost use Rattle.rpki_routes.specs.Roa.Checks.{roa_kind};
 ghost use Rattle.rpki_routes.specs.Roa.Form.{RoaForm};
-ghost use Rattle.rpki_check.specs.Attestation.{IsAttestationCall};
+ghost use Rattle.rpki_check.specs.Calls.{IsObjectCall, IsShowCall};
+ghost use Rattle.rpki_check.specs.Edition.{IsEditionCall};
 ghost use Rattle.rpki_check.specs.Files.{IsFilesCall, checked_files, listed_files};
 ghost use Rattle.rpki_check.specs.Grounds.{manner_in};
 ghost use Rattle.rpki_check.specs.Many.{IsManyCall};
-ghost use Rattle.rpki_check.specs.Numbers.{IsVerdict};
-ghost use Rattle.rpki_check.specs.Report.{IsObjectCall, IsShowCall};
+ghost use Rattle.rpki_check.specs.Numbers.{IsVerdict, version};
 ghost use Rattle.rpki_check.specs.Rows.{IsRowsCall, numbers, payloads};
 
-use crate::attestation::report_attestation;
-use crate::files::{Entry, checklist_files, manifest_files};
+use crate::edition::{Edition, edition_in};
+use crate::files::{Entry, files_in};
 use crate::many::{Object, judge};
+use crate::numbers::{GOOD, NO_MEMORY, VERSION, verification_number};
 use crate::question::{Question, manner_of};
 use crate::report::{report_asked, show_asked};
-use crate::rows::{Payload, aspa_rows, roa_rows};
+use crate::rows::{Payload, rows_in};
 use bytes::Bytes;
 use rpki_basics::{Crypto, PublicKey, RpkiSignature, RpkiSignatureAlgorithm};
+use rpki_faults::VerificationError;
+use rpki_files::{ManifestContent, ResourceSignedChecklist};
+use rpki_routes::{AsProviderAttestation, RouteOriginAttestation};
 use rpki_rsa::Rsa;
 use std::alloc::Global;
 
-/// The version of these calls: the upper 16 bits grow where a call changes, the lower ones where one
-/// is added.
+/// The version of these calls.
 #[unsafe(no_mangle)]
 pub extern "C" fn rpki_check_version() -> u32
-    ensures { result ≡ 65536 }
+    ensures { result ≡ version }
 {
-    65536
+    VERSION
 }
 
 /// Whether a signature of a message is one by RSA with SHA-256 by the key with these bits.
@@ -49,22 +52,23 @@ pub extern "C" fn rpki_check_signature(
     ensures { IsVerdict key.now message.now signature.now result }
 {
     let Ok(bits) = Bytes::copy_from_slice(alloc, key) else {
-        return 1;
+        return NO_MEMORY;
     };
     let Ok(value) = Bytes::copy_from_slice(alloc, signature) else {
-        return 1;
+        return NO_MEMORY;
     };
     let key = PublicKey::from_bits(bits);
     let signature = RpkiSignature::new(RpkiSignatureAlgorithm::RsaSha256, value);
     if Rsa.verify(&key, message, &signature) {
-        0
+        GOOD
     } else {
-        303
+        verification_number(VerificationError::BadSignature)
     }
 }
 
-/// Whether octets begin with a good object of a kind. The text is what the object says, or why
-/// there is none.
+/// Whether octets begin with a good object of a kind, or with a multi-signed attestation that is
+/// granted, where the issuer that the certificates make is the CA that is supplied. The text is what
+/// the object says, or why there is none.
 #[unsafe(no_mangle)]
 pub extern "C" fn rpki_check_object(
     alloc: Global,
@@ -77,21 +81,6 @@ pub extern "C" fn rpki_check_object(
     ensures { IsObjectCall question.now kind object.now room.old room.new len.new result }
 {
     report_asked(alloc, question, kind, object, room, len)
-}
-
-/// Whether octets begin with a multi-signed attestation that is granted, where the issuer that the
-/// certificates make is the CA that is supplied.
-#[unsafe(no_mangle)]
-pub extern "C" fn rpki_check_attestation(
-    alloc: Global,
-    question: &Question<'_>,
-    object: &[u8],
-    room: &mut [u8],
-    len: &mut usize,
-) -> u32
-    ensures { IsAttestationCall question.now object.now room.old room.new len.new result }
-{
-    report_attestation(alloc, question, object, room, len)
 }
 
 /// What the object of a kind at the front of octets says, without a check. Of the question, the
@@ -136,7 +125,7 @@ pub extern "C" fn rpki_check_roa(
     ensures { IsRowsCall roa_kind RoaForm payloads question.now object.now room.old room.new
         count.new result }
 {
-    roa_rows(alloc, question, object, room, count)
+    rows_in::<RouteOriginAttestation>(alloc, question, object, room, count)
 }
 
 /// Whether octets begin with a good manifest: the files that it lists.
@@ -154,7 +143,23 @@ pub extern "C" fn rpki_check_manifest(
         listed_files question.now object.now room.old room.new count.new octets.old octets.new
         len.new result }
 {
-    manifest_files(alloc, question, object, room, count, octets, len)
+    files_in::<ManifestContent>(alloc, question, object, room, count, octets, len)
+}
+
+/// Whether octets begin with a good manifest: its number and its moments.
+#[unsafe(no_mangle)]
+pub extern "C" fn rpki_check_edition(
+    alloc: Global,
+    question: &Question<'_>,
+    object: &[u8],
+    edition: &mut Edition,
+    room: &mut [u8],
+    len: &mut usize,
+) -> u32
+    ensures { IsEditionCall question.now object.now edition.old edition.new room.old room.new len.new
+        result }
+{
+    edition_in(alloc, question, object, edition, room, len)
 }
 
 /// Whether octets begin with a good checklist: the files that it lists.
@@ -171,7 +176,7 @@ pub extern "C" fn rpki_check_checklist(
     ensures { IsFilesCall checklist_kind (ChecklistForm Der) checked_files question.now object.now
         room.old room.new count.new octets.old octets.new len.new result }
 {
-    checklist_files(alloc, question, object, room, count, octets, len)
+    files_in::<ResourceSignedChecklist>(alloc, question, object, room, count, octets, len)
 }
 
 /// Whether octets begin with a good ASPA: its customer, and the customer's providers.
@@ -186,5 +191,5 @@ pub extern "C" fn rpki_check_aspa(
     ensures { IsRowsCall aspa_kind (AspaForm (manner_in question.now).limit) numbers question.now
         object.now room.old room.new count.new result }
 {
-    aspa_rows(alloc, question, object, room, count)
+    rows_in::<AsProviderAttestation>(alloc, question, object, room, count)
 }

@@ -1,17 +1,14 @@
 //! The files that manifests and checklists list, in rows: where the name and the hash of each stand
 //! among octets.
 
-ghost use Rattle.std.specs.Prelude.{◌≡◌, IfOk, OnOk, []};
-ghost use Rattle.rpki_der.specs.declared.mode.Mode.TheVariants.{Der};
-ghost use Rattle.rpki_files.specs.Checklist.{ChecklistForm};
-ghost use Rattle.rpki_files.specs.Checklist.Checks.{checklist_kind};
-ghost use Rattle.rpki_files.specs.Manifest.{ManifestForm};
-ghost use Rattle.rpki_files.specs.Manifest.Checks.{manifest_kind};
+ghost use Rattle.std.specs.Prelude.{◌≡◌, IfOk, List, OnOk};
 ghost use Rattle.rpki_lists.specs.Slice.{seen};
 ghost use Rattle.rpki_check.specs.Files.{AreFilesPut, AreWritten, IsFilesCall, IsPushed, IsTable};
-ghost use Rattle.rpki_check.specs.Files.{checked_files, is_named, listed_files, name_octets};
+ghost use Rattle.rpki_check.specs.Files.{Named, checked_files, is_named, listed_files, name_octets};
 ghost use Rattle.rpki_check.specs.Grounds.{manner_in};
 
+use crate::kinds::Lines;
+use crate::numbers::{GOOD, NO_MEMORY};
 use crate::object::found_in;
 use crate::question::Question;
 use crate::refusal::Refusal;
@@ -126,16 +123,42 @@ fn put_both(
     put(octets, place, len);
 }
 
-/// Puts the files of a manifest, if one is found, and gives the status.
-fn put_manifest(
+/// A content that lists files.
+pub trait Listing: Lines {
+    // The files.
+    ghost files_of: { Self → List Named };
+
+    /// Their table.
+    fn in_table(&self, alloc: Global) -> Result<Table, AllocError>
+        ensures { IfOk result (λ t. IsTable t (files_of self.now)) };
+}
+
+impl Listing for ManifestContent {
+    ghost files_of = { listed_files };
+
+    fn in_table(&self, alloc: Global) -> Result<Table, AllocError> {
+        listed_files(alloc, self)
+    }
+}
+
+impl Listing for ResourceSignedChecklist {
+    ghost files_of = { checked_files };
+
+    fn in_table(&self, alloc: Global) -> Result<Table, AllocError> {
+        checked_files(alloc, self)
+    }
+}
+
+/// Puts the files of a content, if one is found, and gives the status.
+fn put_files<T: Listing>(
     alloc: Global,
-    found: &Result<ManifestContent, Refusal>,
+    found: &Result<T, Refusal>,
     room: &mut [Entry],
     count: &mut usize,
     place: &mut [u8],
     len: &mut usize,
 ) -> u32
-    ensures { AreFilesPut listed_files found.now room.old room.new count.new place.old place.new
+    ensures { AreFilesPut T.files_of found.now room.old room.new count.new place.old place.new
         len.new result }
 {
     match found {
@@ -143,51 +166,21 @@ fn put_manifest(
             put_both(&[], &[], room, count, place, len);
             refusal.number()
         }
-        Ok(manifest) => match listed_files(alloc, manifest) {
+        Ok(content) => match content.in_table(alloc) {
             Err(_) => {
                 put_both(&[], &[], room, count, place, len);
-                1
+                NO_MEMORY
             }
             Ok(table) => {
                 put_both(&table.rows, &table.octets, room, count, place, len);
-                0
+                GOOD
             }
         },
     }
 }
 
-/// Puts the files of a checklist, if one is found, and gives the status.
-fn put_checklist(
-    alloc: Global,
-    found: &Result<ResourceSignedChecklist, Refusal>,
-    room: &mut [Entry],
-    count: &mut usize,
-    place: &mut [u8],
-    len: &mut usize,
-) -> u32
-    ensures { AreFilesPut checked_files found.now room.old room.new count.new place.old place.new
-        len.new result }
-{
-    match found {
-        Err(refusal) => {
-            put_both(&[], &[], room, count, place, len);
-            refusal.number()
-        }
-        Ok(checklist) => match checked_files(alloc, checklist) {
-            Err(_) => {
-                put_both(&[], &[], room, count, place, len);
-                1
-            }
-            Ok(table) => {
-                put_both(&table.rows, &table.octets, room, count, place, len);
-                0
-            }
-        },
-    }
-}
-
-/// The files of the manifest at the front of octets.
-pub fn manifest_files(
+/// The files of the object at the front of octets.
+pub fn files_in<T: Listing>(
     alloc: Global,
     question: &Question<'_>,
     octets: &[u8],
@@ -196,31 +189,11 @@ pub fn manifest_files(
     place: &mut [u8],
     len: &mut usize,
 ) -> u32
-    ensures { IsFilesCall manifest_kind (ManifestForm (manner_in question.now).names Der)
-        listed_files question.now octets.now room.old room.new count.new place.old place.new
-        len.new result }
+    ensures { IsFilesCall T.kind (T.form (T.rule_in (manner_in question.now))) T.files_of
+        question.now octets.now room.old room.new count.new place.old place.new len.new result }
 {
-    let found = found_in(alloc, question, octets);
-    let status = put_manifest(alloc, &found, room, count, place, len);
-    drop(found);
-    status
-}
-
-/// The files of the checklist at the front of octets.
-pub fn checklist_files(
-    alloc: Global,
-    question: &Question<'_>,
-    octets: &[u8],
-    room: &mut [Entry],
-    count: &mut usize,
-    place: &mut [u8],
-    len: &mut usize,
-) -> u32
-    ensures { IsFilesCall checklist_kind (ChecklistForm Der) checked_files question.now octets.now
-        room.old room.new count.new place.old place.new len.new result }
-{
-    let found = found_in(alloc, question, octets);
-    let status = put_checklist(alloc, &found, room, count, place, len);
+    let found = found_in::<T>(alloc, question, octets);
+    let status = put_files(alloc, &found, room, count, place, len);
     drop(found);
     status
 }

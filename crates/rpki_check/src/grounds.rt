@@ -1,5 +1,6 @@
 //! What a question is answered on.
 
+ghost use Rattle.std.specs.Prelude.{◌≡◌, IfOk};
 ghost use Rattle.rpki_der.specs.declared.mode.Mode.TheVariants.{Der};
 ghost use Rattle.rpki_der.specs.Form.Decodes.{Decodes};
 ghost use Rattle.rpki_crls.specs.Crl.{CrlForm};
@@ -70,7 +71,8 @@ fn lists_of(alloc: Global, octets: &[Octets<'_>]) -> Result<Vec<Crl>, Refusal>
 
 /// The list that the octets begin with.
 fn list_in(alloc: Global, octets: &[u8]) -> Result<Crl, DecodeError>
-    ensures { Decodes (CrlForm Der) (λ c. c.list) octets.now result }
+    ensures decodes { Decodes (CrlForm Der) (λ c. c.list) octets.now result }
+    ensures mode { IfOk result (λ c. c.mode ≡ Der) }
 {
     match Bytes::copy_from_slice(alloc, octets) {
         Err(_) => Err(DecodeError::Memory),

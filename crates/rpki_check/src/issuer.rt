@@ -83,6 +83,7 @@ fn next_under(
     match issued_under(alloc, issuer, octets, now) {
         Err(fault) => Err(fault),
         Ok(next) => {
+            next.is_resource_cert();
             if is_unrevoked_under(lists, issuer, &next) {
                 Ok(next)
             } else {

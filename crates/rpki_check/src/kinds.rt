@@ -1,6 +1,6 @@
 //! The kinds of signed objects, and what each brings.
 
-ghost use Rattle.std.specs.Prelude.{◌≡◌, ◌↔◌, ℕ, IsTrue, List, MatchOption};
+ghost use Rattle.std.specs.Prelude.{◌≡◌, ◌↔◌, ℕ, IfOk, IsTrue, List, MatchOption};
 ghost use Rattle.rpki_show.specs.Grows.{Grows};
 ghost use Rattle.rpki_show.specs.Texts.Aspa.{aspa_text};
 ghost use Rattle.rpki_show.specs.Texts.Manifest.{manifest_text};
@@ -8,15 +8,18 @@ ghost use Rattle.rpki_show.specs.Texts.Roa.{roa_text};
 ghost use Rattle.rpki_show.specs.Texts.Rsc.{rsc_text};
 ghost use Rattle.rpki_show.specs.declared.texts.serial.Hexadecimal.TheVariants.{Plain};
 ghost use Rattle.rpki_sigobj.specs.Object.{mode_of};
-ghost use Rattle.rpki_check.specs.Kinds.{IsKindFound, IsNamed, kind_code, type_of};
+ghost use Rattle.rpki_check.specs.Kinds.{AsksFor, IsAskedOr, IsNamedBy, Names, NamesAttestation};
+ghost use Rattle.rpki_check.specs.Kinds.{kind_code, type_of};
 ghost use Rattle.rpki_check.specs.declared.kinds.Kind.{Kind as KindOf};
 ghost use Rattle.rpki_check.specs.declared.question.Manner.{Manner as MannerOf};
 
+use crate::numbers::{NO_KIND, NO_MEMORY};
 use crate::question::Manner;
 use bytes::Bytes;
 use rpki_basics::{ManifestRule, ProviderLimit};
 use rpki_der::{DecodeError, Oid};
 use rpki_files::{ManifestContent, ResourceSignedChecklist};
+use rpki_multi::MultiSignedObject;
 use rpki_routes::{AsProviderAttestation, RouteOriginAttestation};
 use rpki_show::texts::aspa::push_aspa;
 use rpki_show::texts::manifest::push_manifest;
@@ -34,6 +37,16 @@ pub enum Kind {
     Manifest,
     Checklist,
 }
+
+/// What is asked for: an object of a kind, or a multi-signed attestation.
+#[derive(Clone, Copy, Drop)]
+pub enum Asked {
+    Object(Kind),
+    Attestation,
+}
+
+/// The number of attestations.
+const ATTESTATION: u32 = 5;
 
 /// The kind with this number.
 fn kind_of(number: u32) -> Option<Kind>
@@ -75,40 +88,79 @@ fn kind_of_type(content_type: &Oid) -> Option<Kind>
     }
 }
 
-/// The kind that the content type of the object at the front of octets names, or the status where
-/// it names none.
-fn kind_in(alloc: Global, octets: &[u8], strict: bool) -> Result<Kind, u32>
-    ensures { IsNamed (mode_of strict) octets.now result }
+/// The kind that the content type of the object at the front of octets names, if there is one.
+fn kind_in(alloc: Global, octets: &[u8], strict: bool) -> Result<Option<Kind>, AllocError>
+    ensures { IfOk result (λ found. MatchOption found
+        ((k : KindOf) → Names (mode_of strict) octets.now k → ⊥)
+        (λ k. Names (mode_of strict) octets.now k)) }
 {
     let Ok(source) = Bytes::copy_from_slice(alloc, octets) else {
-        return Err(1);
+        return Err(AllocError);
     };
     match SignedObject::decode(alloc, source, strict) {
-        Err(DecodeError::Memory) => Err(1),
-        Err(DecodeError::Malformed) => Err(3),
-        Err(DecodeError::Content(_)) => Err(3),
+        Err(DecodeError::Memory) => Err(AllocError),
+        Err(DecodeError::Malformed) => Ok(None),
+        Err(DecodeError::Content(_)) => Ok(None),
         Ok(object) => {
             let kind = kind_of_type(object.content_type());
             drop(object);
-            match kind {
-                Some(kind) => Ok(kind),
-                None => Err(3),
-            }
+            Ok(kind)
         }
     }
 }
 
-/// The kind that is asked for: the one with this number, or for 0 the one that the content type of
-/// the object names; or the status where there is none.
-pub fn kind_asked(alloc: Global, number: u32, octets: &[u8], strict: bool) -> Result<Kind, u32>
-    ensures { IsKindFound (mode_of strict) number octets.now result }
+/// Whether octets begin with a multi-signed object, whose content is to be an attestation.
+fn is_attestation(alloc: Global, octets: &[u8]) -> Result<bool, AllocError>
+    ensures { IfOk result (λ is. IsTrue is ↔ NamesAttestation octets.now) }
+{
+    let Ok(source) = Bytes::copy_from_slice(alloc, octets) else {
+        return Err(AllocError);
+    };
+    match MultiSignedObject::decode(alloc, source) {
+        Err(DecodeError::Memory) => Err(AllocError),
+        Err(DecodeError::Malformed) => Ok(false),
+        Err(DecodeError::Content(_)) => Ok(false),
+        Ok(object) => {
+            drop(object);
+            Ok(true)
+        }
+    }
+}
+
+/// What the object at the front of octets names, or the status where it names nothing.
+fn named(alloc: Global, octets: &[u8], strict: bool) -> Result<Asked, u32>
+    ensures { IsAskedOr (IsNamedBy (mode_of strict) octets.now) result }
+{
+    match kind_in(alloc, octets, strict) {
+        Err(_) => Err(NO_MEMORY),
+        Ok(Some(kind)) => Ok(Asked::Object(kind)),
+        Ok(None) => match is_attestation(alloc, octets) {
+            Err(_) => Err(NO_MEMORY),
+            Ok(is) => {
+                if is {
+                    Ok(Asked::Attestation)
+                } else {
+                    Err(NO_KIND)
+                }
+            }
+        },
+    }
+}
+
+/// What is asked for: what has this number, or for 0 what the object at the front of octets names;
+/// or the status where there is nothing such.
+pub fn asked_for(alloc: Global, number: u32, octets: &[u8], strict: bool) -> Result<Asked, u32>
+    ensures { IsAskedOr (AsksFor (mode_of strict) number octets.now) result }
 {
     if number == 0 {
-        return kind_in(alloc, octets, strict);
+        return named(alloc, octets, strict);
+    }
+    if number == ATTESTATION {
+        return Ok(Asked::Attestation);
     }
     match kind_of(number) {
-        Some(kind) => Ok(kind),
-        None => Err(3),
+        Some(kind) => Ok(Asked::Object(kind)),
+        None => Err(NO_KIND),
     }
 }
 

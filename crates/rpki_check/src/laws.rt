@@ -1,5 +1,6 @@
-//! What statuses mean: a law, as a function that does nothing.
+//! What statuses mean: laws, as functions that do nothing.
 
+ghost use Rattle.std.specs.Prelude.{◌≡◌};
 ghost use Rattle.rpki_basics.specs.declared.limits.ManifestRule.{ManifestRule};
 ghost use Rattle.rpki_basics.specs.declared.limits.ProviderLimit.{ProviderLimit};
 ghost use Rattle.rpki_der.specs.declared.mode.Mode.TheVariants.{Der};
@@ -11,7 +12,21 @@ ghost use Rattle.rpki_routes.specs.Aspa.Checks.{aspa_kind};
 ghost use Rattle.rpki_routes.specs.Aspa.Form.{AspaForm};
 ghost use Rattle.rpki_routes.specs.Roa.Checks.{roa_kind};
 ghost use Rattle.rpki_routes.specs.Roa.Form.{RoaForm};
+ghost use Rattle.rpki_check.specs.Grounds.{AreGroundsOf, AreSame, HasNoGrounds};
+ghost use Rattle.rpki_check.specs.Numbers.{no_memory, refusal_number};
 ghost use Rattle.rpki_check.specs.Object.{IsDecided};
+ghost use Rattle.rpki_check.specs.declared.grounds.Grounds.{Grounds};
+ghost use Rattle.rpki_check.specs.declared.question.Question.{Question as QuestionOf};
+ghost use Rattle.rpki_check.specs.declared.refusal.Refusal.{Refusal};
+
+/// A question has one moment, the same lists and one issuer, and is refused for want of memory alone
+/// where it has them.
+pub fn questions_have_one_issuer()
+    ensures one { (q : QuestionOf) (g h : Grounds) → AreGroundsOf q g → AreGroundsOf q h
+        → AreSame g h }
+    ensures refused { (q : QuestionOf) (refusal : Refusal) → HasNoGrounds q refusal
+        → ¬ (refusal_number refusal ≡ no_memory) → (g : Grounds) → ¬ AreGroundsOf q g }
+{}
 
 /// The status of what is found, as each call answers it, is 0 exactly where the octets begin with a
 /// good object under the issuer that the certificates make, and no list revokes it, unless memory

@@ -5,6 +5,7 @@
 #![tactic(auto)]
 
 mod attestation;
+mod edition;
 mod exports;
 mod files;
 mod grounds;

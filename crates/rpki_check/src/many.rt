@@ -3,10 +3,13 @@
 ghost use Rattle.std.specs.Prelude.{◌≡◌, IfOk};
 ghost use Rattle.std.specs.List.{AllZip};
 ghost use Rattle.rpki_sigobj.specs.Object.{mode_of};
-ghost use Rattle.rpki_check.specs.Many.{IsManyCall, IsStatusOn, IsStatusAs};
+ghost use Rattle.rpki_check.specs.Kinds.{OfKind};
+ghost use Rattle.rpki_check.specs.Many.{IsGrantStatus, IsManyCall, IsStatusAs, IsStatusOn};
 
+use crate::attestation::granted_on;
 use crate::grounds::{Grounds, grounds_of};
-use crate::kinds::{Kind, Lines, kind_asked};
+use crate::kinds::{Asked, Kind, Lines, asked_for};
+use crate::numbers::{GOOD, NO_MEMORY};
 use crate::object::found_on;
 use crate::question::{Manner, Question, manner_of};
 use crate::refusal::status_of;
@@ -35,19 +38,38 @@ fn status_as<T: Lines>(alloc: Global, octets: &[u8], manner: Manner, grounds: &G
     status
 }
 
+/// The status of an attestation on these grounds.
+fn grant_status(alloc: Global, octets: &[u8], grounds: &Grounds) -> u32
+    ensures { IsGrantStatus grounds.now octets.now result }
+{
+    let found = granted_on(alloc, octets, grounds);
+    let status = status_of(&found);
+    drop(found);
+    status
+}
+
+/// The status of an object of a kind on these grounds.
+fn kind_status(alloc: Global, kind: Kind, octets: &[u8], manner: Manner, grounds: &Grounds) -> u32
+    ensures { OfKind manner kind (λ X asked form lines.
+        IsStatusAs asked form (mode_of manner.strict) grounds.now octets.now result) }
+{
+    match kind {
+        Kind::Roa => status_as::<RouteOriginAttestation>(alloc, octets, manner, grounds),
+        Kind::Aspa => status_as::<AsProviderAttestation>(alloc, octets, manner, grounds),
+        Kind::Manifest => status_as::<ManifestContent>(alloc, octets, manner, grounds),
+        Kind::Checklist => status_as::<ResourceSignedChecklist>(alloc, octets, manner, grounds),
+    }
+}
+
 /// The status of an object on these grounds.
 fn status_on(alloc: Global, object: &Object<'_>, manner: Manner, grounds: &Grounds) -> u32
     ensures { IsStatusOn manner grounds.now object.now result }
 {
     let octets = object.octets;
-    match kind_asked(alloc, object.kind, octets, manner.strict) {
+    match asked_for(alloc, object.kind, octets, manner.strict) {
         Err(status) => status,
-        Ok(Kind::Roa) => status_as::<RouteOriginAttestation>(alloc, octets, manner, grounds),
-        Ok(Kind::Aspa) => status_as::<AsProviderAttestation>(alloc, octets, manner, grounds),
-        Ok(Kind::Manifest) => status_as::<ManifestContent>(alloc, octets, manner, grounds),
-        Ok(Kind::Checklist) => {
-            status_as::<ResourceSignedChecklist>(alloc, octets, manner, grounds)
-        }
+        Ok(Asked::Object(kind)) => kind_status(alloc, kind, octets, manner, grounds),
+        Ok(Asked::Attestation) => grant_status(alloc, octets, grounds),
     }
 }
 
@@ -88,11 +110,11 @@ pub fn judge(
             match statuses {
                 Err(_) => {
                     put(&[], room, count);
-                    1
+                    NO_MEMORY
                 }
                 Ok(statuses) => {
                     put(&statuses, room, count);
-                    0
+                    GOOD
                 }
             }
         }

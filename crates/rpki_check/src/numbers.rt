@@ -1,15 +1,40 @@
 //! The numbers of the faults of certificates and objects.
 
 ghost use Rattle.std.specs.Prelude.{◌≡◌, ◌<◌};
-ghost use Rattle.rpki_check.specs.Numbers.{inspection_number, verification_number};
+ghost use Rattle.rpki_check.specs.Numbers.{inspection_number, of_issuer, verification_number};
 
 use rpki_faults::{Family, InspectionError, VerificationError};
 use rpki_resources::AddressFamily;
 
+/// The version of the calls: the upper 16 bits grow where a call changes, the lower ones where one
+/// is added.
+pub const VERSION: u32 = 0x1_0000;
+
+/// The octets begin with a good object.
+pub const GOOD: u32 = 0;
+
+/// Memory ran out.
+pub const NO_MEMORY: u32 = 1;
+
+/// The date is none.
+pub const NO_MOMENT: u32 = 2;
+
+/// No kind has this number, or the object names none.
+pub const NO_KIND: u32 = 3;
+
+/// One of the revocation lists is none.
+pub const NO_LIST: u32 = 4;
+
+/// The octets begin with no object of the kind.
+pub const MALFORMED: u32 = 100;
+
+/// How much more the number of a fault is where it is one of the certificates of a question.
+pub const OF_ISSUER: u32 = 1000;
+
 /// The number of what does not fit the profile.
 pub fn inspection_number(fault: InspectionError) -> u32
     ensures number { result ≡ inspection_number fault }
-    ensures small { result < 1000 }
+    ensures small { result < of_issuer }
 {
     match fault {
         InspectionError::SidMismatch => 201,
@@ -39,7 +64,7 @@ pub fn inspection_number(fault: InspectionError) -> u32
 /// The number of what fits the profile, and is not good.
 pub fn verification_number(fault: VerificationError) -> u32
     ensures number { result ≡ verification_number fault }
-    ensures small { result < 1000 }
+    ensures small { result < of_issuer }
 {
     match fault {
         VerificationError::DigestMismatch => 301,

@@ -5,7 +5,10 @@ ghost use Rattle.rpki_check.specs.Numbers.{check_number, issuer_number, refusal_
 ghost use Rattle.rpki_check.specs.Report.{refusal_text};
 ghost use Rattle.rpki_show.specs.Grows.{Grows};
 
-use crate::numbers::{inspection_number, verification_number};
+use crate::numbers::{
+    GOOD, MALFORMED, NO_LIST, NO_MEMORY, NO_MOMENT, OF_ISSUER, inspection_number,
+    verification_number,
+};
 use rpki_certs::IssuerError;
 use rpki_der::DecodeError;
 use rpki_faults::ValidationError;
@@ -34,9 +37,9 @@ impl Refusal {
         ensures { result ≡ refusal_number self.now }
     {
         match self {
-            Refusal::Memory => 1,
-            Refusal::NoMoment => 2,
-            Refusal::NoList => 4,
+            Refusal::Memory => NO_MEMORY,
+            Refusal::NoMoment => NO_MOMENT,
+            Refusal::NoList => NO_LIST,
             Refusal::Issuer(fault) => issuer_number(fault),
             Refusal::Check(fault) => check_number(fault),
         }
@@ -61,10 +64,10 @@ fn check_number(fault: &CheckError) -> u32
     ensures { result ≡ check_number fault.now }
 {
     match fault {
-        CheckError::Decode(DecodeError::Memory) => 1,
-        CheckError::Decode(DecodeError::Malformed) => 100,
-        CheckError::Decode(DecodeError::Content(_)) => 100,
-        CheckError::Validation(ValidationError::Memory) => 1,
+        CheckError::Decode(DecodeError::Memory) => NO_MEMORY,
+        CheckError::Decode(DecodeError::Malformed) => MALFORMED,
+        CheckError::Decode(DecodeError::Content(_)) => MALFORMED,
+        CheckError::Validation(ValidationError::Memory) => NO_MEMORY,
         CheckError::Validation(ValidationError::Inspection(fault)) => inspection_number(*fault),
         CheckError::Validation(ValidationError::Verification(fault)) => verification_number(*fault),
     }
@@ -75,15 +78,15 @@ fn issuer_number(fault: &IssuerError) -> u32
     ensures { result ≡ issuer_number fault.now }
 {
     match fault {
-        IssuerError::Decode(DecodeError::Memory) => 1,
-        IssuerError::Decode(DecodeError::Malformed) => 1100,
-        IssuerError::Decode(DecodeError::Content(_)) => 1100,
-        IssuerError::Validation(ValidationError::Memory) => 1,
+        IssuerError::Decode(DecodeError::Memory) => NO_MEMORY,
+        IssuerError::Decode(DecodeError::Malformed) => OF_ISSUER + MALFORMED,
+        IssuerError::Decode(DecodeError::Content(_)) => OF_ISSUER + MALFORMED,
+        IssuerError::Validation(ValidationError::Memory) => NO_MEMORY,
         IssuerError::Validation(ValidationError::Inspection(fault)) => {
-            1000 + inspection_number(*fault)
+            OF_ISSUER + inspection_number(*fault)
         }
         IssuerError::Validation(ValidationError::Verification(fault)) => {
-            1000 + verification_number(*fault)
+            OF_ISSUER + verification_number(*fault)
         }
     }
 }
@@ -93,7 +96,7 @@ pub fn status_of<X>(found: &Result<X, Refusal>) -> u32
     ensures { result ≡ status_of found.now }
 {
     match found {
-        Ok(_) => 0,
+        Ok(_) => GOOD,
         Err(refusal) => refusal.number(),
     }
 }

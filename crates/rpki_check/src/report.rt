@@ -3,10 +3,13 @@
 ghost use Rattle.std.specs.Prelude.{◌≡◌, IfOk, string_bytes};
 ghost use Rattle.rpki_check.specs.Grounds.{manner_in};
 ghost use Rattle.rpki_sigobj.specs.Object.{mode_of};
-ghost use Rattle.rpki_check.specs.Report.{IsObjectCall, IsReported, IsSaid, IsShowCall, IsShown};
-ghost use Rattle.rpki_check.specs.Report.{refusal_text, text_of};
+ghost use Rattle.rpki_check.specs.Calls.{IsObjectCall, IsShowCall};
+ghost use Rattle.rpki_check.specs.Kinds.{OfKind};
+ghost use Rattle.rpki_check.specs.Report.{IsReported, IsSaid, IsShown, refusal_text, text_of};
 
-use crate::kinds::{Kind, Lines, kind_asked};
+use crate::attestation::{report_attestation, show_attestation};
+use crate::kinds::{Asked, Kind, Lines, asked_for};
+use crate::numbers::NO_MEMORY;
 use crate::object::{found_in, read_object};
 use crate::question::{Manner, Question};
 use crate::refusal::{Refusal, status_of};
@@ -55,7 +58,7 @@ fn put_found<T: Lines>(
     match text_of(alloc, found) {
         Err(_) => {
             put(b"", room, len);
-            1
+            NO_MEMORY
         }
         Ok(text) => {
             put(text.as_bytes(), room, len);
@@ -82,7 +85,27 @@ fn report<T: Lines>(
     status
 }
 
-/// The same for the kind that a number asks for.
+/// The same for a kind.
+fn report_kind(
+    alloc: Global,
+    question: &Question<'_>,
+    kind: Kind,
+    octets: &[u8],
+    room: &mut [u8],
+    len: &mut usize,
+) -> u32
+    ensures { OfKind (manner_in question.now) kind (λ X asked form lines.
+        IsSaid asked form lines question.now octets.now room.old room.new len.new result) }
+{
+    match kind {
+        Kind::Roa => report::<RouteOriginAttestation>(alloc, question, octets, room, len),
+        Kind::Aspa => report::<AsProviderAttestation>(alloc, question, octets, room, len),
+        Kind::Manifest => report::<ManifestContent>(alloc, question, octets, room, len),
+        Kind::Checklist => report::<ResourceSignedChecklist>(alloc, question, octets, room, len),
+    }
+}
+
+/// The same for what a number asks for.
 pub fn report_asked(
     alloc: Global,
     question: &Question<'_>,
@@ -93,17 +116,13 @@ pub fn report_asked(
 ) -> u32
     ensures { IsObjectCall question.now number octets.now room.old room.new len.new result }
 {
-    match kind_asked(alloc, number, octets, question.relaxed == 0) {
+    match asked_for(alloc, number, octets, question.relaxed == 0) {
         Err(status) => {
             put(b"", room, len);
             status
         }
-        Ok(Kind::Roa) => report::<RouteOriginAttestation>(alloc, question, octets, room, len),
-        Ok(Kind::Aspa) => report::<AsProviderAttestation>(alloc, question, octets, room, len),
-        Ok(Kind::Manifest) => report::<ManifestContent>(alloc, question, octets, room, len),
-        Ok(Kind::Checklist) => {
-            report::<ResourceSignedChecklist>(alloc, question, octets, room, len)
-        }
+        Ok(Asked::Object(kind)) => report_kind(alloc, question, kind, octets, room, len),
+        Ok(Asked::Attestation) => report_attestation(alloc, question, octets, room, len),
     }
 }
 
@@ -124,7 +143,27 @@ fn show<T: Lines>(
     status
 }
 
-/// The same for the kind that a number asks for.
+/// The same for a kind.
+fn show_kind(
+    alloc: Global,
+    manner: Manner,
+    kind: Kind,
+    octets: &[u8],
+    room: &mut [u8],
+    len: &mut usize,
+) -> u32
+    ensures { OfKind manner kind (λ X asked form lines.
+        IsShown asked form lines (mode_of manner.strict) octets.now room.old room.new len.new result) }
+{
+    match kind {
+        Kind::Roa => show::<RouteOriginAttestation>(alloc, manner, octets, room, len),
+        Kind::Aspa => show::<AsProviderAttestation>(alloc, manner, octets, room, len),
+        Kind::Manifest => show::<ManifestContent>(alloc, manner, octets, room, len),
+        Kind::Checklist => show::<ResourceSignedChecklist>(alloc, manner, octets, room, len),
+    }
+}
+
+/// The same for what a number asks for.
 pub fn show_asked(
     alloc: Global,
     manner: Manner,
@@ -135,14 +174,12 @@ pub fn show_asked(
 ) -> u32
     ensures { IsShowCall manner number octets.now room.old room.new len.new result }
 {
-    match kind_asked(alloc, number, octets, manner.strict) {
+    match asked_for(alloc, number, octets, manner.strict) {
         Err(status) => {
             put(b"", room, len);
             status
         }
-        Ok(Kind::Roa) => show::<RouteOriginAttestation>(alloc, manner, octets, room, len),
-        Ok(Kind::Aspa) => show::<AsProviderAttestation>(alloc, manner, octets, room, len),
-        Ok(Kind::Manifest) => show::<ManifestContent>(alloc, manner, octets, room, len),
-        Ok(Kind::Checklist) => show::<ResourceSignedChecklist>(alloc, manner, octets, room, len),
+        Ok(Asked::Object(kind)) => show_kind(alloc, manner, kind, octets, room, len),
+        Ok(Asked::Attestation) => show_attestation(alloc, octets, room, len),
     }
 }

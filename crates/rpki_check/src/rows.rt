@@ -1,14 +1,12 @@
 //! What contents say, in rows.
 
-ghost use Rattle.std.specs.Prelude.{◌≡◌, IfOk};
-ghost use Rattle.rpki_routes.specs.Aspa.Checks.{aspa_kind};
-ghost use Rattle.rpki_routes.specs.Aspa.Form.{AspaForm};
-ghost use Rattle.rpki_routes.specs.Roa.Checks.{roa_kind};
-ghost use Rattle.rpki_routes.specs.Roa.Form.{RoaForm};
+ghost use Rattle.std.specs.Prelude.{◌≡◌, IfOk, List};
 ghost use Rattle.rpki_check.specs.Grounds.{manner_in};
 ghost use Rattle.rpki_check.specs.Rows.{IsPut, IsRowsCall, family_number, numbers, payload_of};
 ghost use Rattle.rpki_check.specs.Rows.{payloads};
 
+use crate::kinds::Lines;
+use crate::numbers::{GOOD, NO_MEMORY};
 use crate::object::found_in;
 use crate::question::Question;
 use crate::refusal::Refusal;
@@ -16,6 +14,11 @@ use crate::room::put;
 use rpki_resources::AddressFamily;
 use rpki_routes::{AsProviderAttestation, FriendlyRoaIpAddress, RouteOriginAttestation};
 use std::alloc::{AllocError, Global};
+
+/// The numbers of the families.
+const IPV4: u8 = 4;
+
+const IPV6: u8 = 6;
 
 /// A prefix that an AS may originate.
 #[repr(C)]
@@ -55,8 +58,8 @@ fn family_number(address: FriendlyRoaIpAddress) -> u8
     ensures { result ≡ family_number address.family }
 {
     match address.max_len_prefix().family {
-        AddressFamily::Ipv4 => 4,
-        AddressFamily::Ipv6 => 6,
+        AddressFamily::Ipv4 => IPV4,
+        AddressFamily::Ipv6 => IPV6,
     }
 }
 
@@ -84,90 +87,79 @@ fn numbers_of(alloc: Global, aspa: &AsProviderAttestation) -> Result<Vec<u32>, A
     Ok(rows)
 }
 
-/// Puts the rows of a ROA, if one is found, and gives the status.
-fn put_roa(
+/// A content that has rows.
+pub trait Rows: Lines {
+    /// A row.
+    type Row: Copy;
+
+    // Its rows.
+    ghost rows_of: { Self → List Self.Row };
+
+    /// Its rows.
+    fn in_rows(&self, alloc: Global) -> Result<Vec<Self::Row>, AllocError>
+        ensures { IfOk result (λ all. all.items ≡ rows_of self.now) };
+}
+
+impl Rows for RouteOriginAttestation {
+    type Row = Payload;
+
+    ghost rows_of = { payloads };
+
+    fn in_rows(&self, alloc: Global) -> Result<Vec<Payload>, AllocError> {
+        payloads_of(alloc, self)
+    }
+}
+
+impl Rows for AsProviderAttestation {
+    type Row = u32;
+
+    ghost rows_of = { numbers };
+
+    fn in_rows(&self, alloc: Global) -> Result<Vec<u32>, AllocError> {
+        numbers_of(alloc, self)
+    }
+}
+
+/// Puts the rows of a content, if one is found, and gives the status.
+fn put_rows<T: Rows>(
     alloc: Global,
-    found: &Result<RouteOriginAttestation, Refusal>,
-    room: &mut [Payload],
+    found: &Result<T, Refusal>,
+    room: &mut [T::Row],
     count: &mut usize,
 ) -> u32
-    ensures { IsPut payloads found.now room.old room.new count.new result }
+    ensures { IsPut T.rows_of found.now room.old room.new count.new result }
 {
     match found {
         Err(refusal) => {
             put(&[], room, count);
             refusal.number()
         }
-        Ok(roa) => match payloads_of(alloc, roa) {
+        Ok(content) => match content.in_rows(alloc) {
             Err(_) => {
                 put(&[], room, count);
-                1
+                NO_MEMORY
             }
             Ok(rows) => {
                 put(&rows, room, count);
-                0
+                GOOD
             }
         },
     }
 }
 
-/// Puts the rows of an ASPA, if one is found, and gives the status.
-fn put_aspa(
-    alloc: Global,
-    found: &Result<AsProviderAttestation, Refusal>,
-    room: &mut [u32],
-    count: &mut usize,
-) -> u32
-    ensures { IsPut numbers found.now room.old room.new count.new result }
-{
-    match found {
-        Err(refusal) => {
-            put(&[], room, count);
-            refusal.number()
-        }
-        Ok(aspa) => match numbers_of(alloc, aspa) {
-            Err(_) => {
-                put(&[], room, count);
-                1
-            }
-            Ok(rows) => {
-                put(&rows, room, count);
-                0
-            }
-        },
-    }
-}
-
-/// The rows of the ROA at the front of octets.
-pub fn roa_rows(
+/// The rows of the object at the front of octets.
+pub fn rows_in<T: Rows>(
     alloc: Global,
     question: &Question<'_>,
     octets: &[u8],
-    room: &mut [Payload],
+    room: &mut [T::Row],
     count: &mut usize,
 ) -> u32
-    ensures { IsRowsCall roa_kind RoaForm payloads question.now octets.now room.old room.new
-        count.new result }
-{
-    let found = found_in(alloc, question, octets);
-    let status = put_roa(alloc, &found, room, count);
-    drop(found);
-    status
-}
-
-/// The rows of the ASPA at the front of octets.
-pub fn aspa_rows(
-    alloc: Global,
-    question: &Question<'_>,
-    octets: &[u8],
-    room: &mut [u32],
-    count: &mut usize,
-) -> u32
-    ensures { IsRowsCall aspa_kind (AspaForm (manner_in question.now).limit) numbers question.now
+    ensures { IsRowsCall T.kind (T.form (T.rule_in (manner_in question.now))) T.rows_of question.now
         octets.now room.old room.new count.new result }
 {
-    let found = found_in(alloc, question, octets);
-    let status = put_aspa(alloc, &found, room, count);
+    let found = found_in::<T>(alloc, question, octets);
+    let status = put_rows(alloc, &found, room, count);
     drop(found);
     status
 }

@@ -2,8 +2,9 @@
 
 mod octets;
 
+use crate::edition::Edition;
 use crate::exports::{
-    rpki_check_aspa, rpki_check_attestation, rpki_check_checklist, rpki_check_manifest,
+    rpki_check_aspa, rpki_check_checklist, rpki_check_edition, rpki_check_manifest,
     rpki_check_object, rpki_check_objects, rpki_check_roa, rpki_check_show, rpki_check_signature,
     rpki_check_version,
 };
@@ -88,13 +89,15 @@ fn objects_are_shown(rt: HostRuntime) {
 #[test]
 fn attestations_are_granted(rt: HostRuntime) {
     let alloc = rt.alloc();
+    let question = asked(2027, &[]);
+    assert_eq!(rt; status_of(alloc, &question, 5, HOLDING).0, 0);
+    assert_eq!(rt; status_of(alloc, &question, 0, HOLDING).0, 0);
+    assert_eq!(rt; status_of(alloc, &question, 5, ORIGIN).0, 100);
     let mut room = [0; 4];
     let mut len = 0;
-    let question = asked(2027, &[]);
-    let status = rpki_check_attestation(alloc, &question, HOLDING, &mut room, &mut len);
-    assert_eq!(rt; status, 0);
-    let status = rpki_check_attestation(alloc, &question, ORIGIN, &mut room, &mut len);
-    assert_eq!(rt; status, 100);
+    let status = rpki_check_show(alloc, &question, 0, HOLDING, &mut room, &mut len);
+    assert_eq!(rt; (status, len > 4), (0, true));
+    assert_eq!(rt; room, [0; 4]);
 }
 
 #[test]
@@ -191,6 +194,30 @@ fn files_are_those_of_the_content(rt: HostRuntime) {
 }
 
 #[test]
+fn a_manifest_has_a_number_and_moments(rt: HostRuntime) {
+    let question = asked(2027, &[]);
+    let mut edition = Edition {
+        this_update: 7,
+        next_update: 7,
+    };
+    let mut room = [0; 40];
+    let mut len = 0;
+    let alloc = rt.alloc();
+    let status = rpki_check_edition(alloc, &question, ORIGIN, &mut edition, &mut room, &mut len);
+    assert_eq!(rt; (status, len, edition.this_update), (100, 0, 7));
+    let status = rpki_check_edition(
+        alloc,
+        &question,
+        MANIFEST,
+        &mut edition,
+        &mut room,
+        &mut len,
+    );
+    assert_eq!(rt; (status, len, room[0]), (0, 1, b'1'));
+    assert_eq!(rt; edition.this_update < edition.next_update, true);
+}
+
+#[test]
 fn many_objects_are_judged(rt: HostRuntime) {
     let question = asked(2027, &LISTS);
     let objects = [
@@ -203,13 +230,17 @@ fn many_objects_are_judged(rt: HostRuntime) {
             octets: MANIFEST,
         },
         Object {
-            kind: 5,
+            kind: 6,
             octets: LETTER,
         },
+        Object {
+            kind: 0,
+            octets: HOLDING,
+        },
     ];
-    let mut room = [7; 3];
+    let mut room = [7; 4];
     let mut count = 0;
     let status = rpki_check_objects(rt.alloc(), &question, &objects, &mut room, &mut count);
-    assert_eq!(rt; (status, count), (0, 3));
-    assert_eq!(rt; room, [337, 0, 3]);
+    assert_eq!(rt; (status, count), (0, 4));
+    assert_eq!(rt; room, [337, 0, 3, 0]);
 }

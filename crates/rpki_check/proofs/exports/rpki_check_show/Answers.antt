@@ -1,5 +1,5 @@
 use Rattle.std.proofs.Common.{subst}
-use Rattle.rpki_check.specs.Report.{IsShowCall}
+use Rattle.rpki_check.specs.Calls.{IsShowCall}
 use Rattle.rpki_check.specs.declared.question.Manner.{Manner}
 use Rattle.rpki_check.proofs.exports.rpki_check_show.Goals as goal
 

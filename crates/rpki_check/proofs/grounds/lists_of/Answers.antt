@@ -10,9 +10,9 @@ use Rattle.rpki_check.proofs.grounds.lists_of.Goals as goal
 pub loop-one-preserved : goal.loop-one-preserved
 loop-one-preserved c =
     let items : c.push.new.self.items ≡ c.loop-one.lists.items ++ c.in-Ok.list ∷ [] = search rules in
-    rw items (zip-more (λ (o : Octets) (l : KeptCrl). IsList o.octets.now l.list)
+    rw items (zip-more (λ (o : Octets) (l : KeptCrl). IsList o.octets.now l)
     c.args.octets.now c.loop-one.lists.items c.loop-one.one-index _ c.in-Ok.list
-    c.loop-one-test.true c.loop-one.invariant c.in-Ok.ensures)
+    c.loop-one-test.true c.loop-one.invariant (c.in-Ok.ensures.mode, c.in-Ok.ensures.decodes))
 
 pub returns : goal.returns
 returns c =
