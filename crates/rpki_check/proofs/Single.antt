@@ -1,7 +1,6 @@
 -- A question has one moment, the same lists and one issuer, and is not refused where it has them.
 use Rattle.std.proofs.Common.{◌≡◌, ◌∙◌, inl, inr, ℕ, zero, suc, ◌<◌, List, [], ◌∷◌, length, get_or}
-use Rattle.std.proofs.Common.{Bool, true, false, Result, Ok, Err, refl, sym, ap, arith, subst}
-use Rattle.std.specs.List.{Any}
+use Rattle.std.proofs.Common.{Bool, true, false, Ok, Err, refl, sym, ap, arith, subst}
 use Rattle.rpki_der.specs.declared.error.DecodeError.{DecodeError}
 use Rattle.rpki_der.specs.declared.error.DecodeError.TheVariants as decoding
 use Rattle.rpki_der.specs.declared.mode.Mode.TheVariants.{Der}
@@ -158,7 +157,7 @@ module _ (now : Moment) (octets : List ℕ) where
       next-not : (v : Validated) (fault : IssuerError) → IsNextCa lists now issuer octets (Ok v)
           → IsNextCa lists now issuer octets (Err fault) → issuer_number fault ≡ no_memory
       next-not v fault (h, u, c) (inl g) = issued-not v fault h g
-      next-not v fault (h, u, c) (inr (e, w, g, n)) =
+      next-not v fault (h, u, c) (inr (e, (w, g, n))) =
           absurd (n (subst (λ (k : KeptCertificate). IsUnrevoked lists issuer.cert.certificate
           k.certificate) (same-cert (in_der h.cert) issuer v w h.holds.1 (again v w h g)) u))
 
@@ -230,7 +229,7 @@ module _ (lists : List KeptCrl) (now : Moment) where
 -- ---- lists
 
 one-list : (octets : List ℕ) (x y : KeptCrl) → IsList octets x → IsList octets y → x ≡ y
-one-list octets x y (m, r, h) (n, s, g) =
+one-list octets x y (m, (r, h)) (n, (s, g)) =
     λ i. record { list = (g.only x.list r h.found).0 i; mode = (m ∙ sym n) i }
 
 one-lists : (octets : List Octets) (a b : List KeptCrl) → AreLists octets a → AreLists octets b
@@ -247,7 +246,7 @@ not-lists : (octets : List Octets) (lists : List KeptCrl) (k : ℕ) (o : Octets)
     → get_or octets k o ≡ o → HasNoFront (CrlForm Der) o.octets.now → AreLists octets lists → ⊥
 not-lists [] lists k o l e none h = absurd (omega (arith, l))
 not-lists (x ∷ octets) [] k o l e none h = h
-not-lists (x ∷ octets) (y ∷ lists) zero o l e none ((m, r, front), h) =
+not-lists (x ∷ octets) (y ∷ lists) zero o l e none ((m, (r, front)), h) =
     subst (λ (z : Octets). HasNoFront (CrlForm Der) z.octets.now) (sym e) none y.list r front.found
 not-lists (x ∷ octets) (y ∷ lists) (suc k) o l e none h =
     not-lists octets lists k o (omega (arith, l)) e none h.1

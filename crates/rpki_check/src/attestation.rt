@@ -1,10 +1,11 @@
 //! Multi-signed attestations, where the issuer that certificates make is the CA that is supplied.
 
-ghost use Rattle.std.specs.Prelude.{◌≡◌, ◌↔◌, IfOk, IsTrue, string_bytes};
+ghost use Rattle.std.specs.Prelude.{◌≡◌, ◌↔◌, ◌∷◌, [], IfOk, IsTrue, map, string_bytes};
+ghost use Rattle.rpki_rta.specs.Refused.{supply_in};
 ghost use Rattle.rpki_check.specs.Attestation.{GrantsOn, IsAttestationFound, IsAttestationRead};
 ghost use Rattle.rpki_check.specs.Attestation.{IsAttestationSaid, IsAttestationShown};
 ghost use Rattle.rpki_check.specs.Attestation.{IsGrantedOn, IsOfIssuer, IsRevokedOf, IsUnrevokedOn};
-ghost use Rattle.rpki_check.specs.Attestation.{NoneIsRevoked, lines_of};
+ghost use Rattle.rpki_check.specs.Attestation.{NoneIsRevoked, lines_of, supply_on};
 ghost use Rattle.rpki_check.specs.Report.{IsReported, text_of};
 
 use crate::grounds::{Grounds, grounds_of};
@@ -21,6 +22,7 @@ use rpki_faults::{ValidationError, VerificationError};
 use rpki_multi::Rta;
 use rpki_paths::Supplied;
 use rpki_rsa::Rsa;
+use rpki_rta::Supply;
 use rpki_show::texts::rta::push_attestation;
 use rpki_signed::check;
 use rpki_signed::check::CheckError;
@@ -67,12 +69,26 @@ fn is_unrevoked_on(grounds: &Grounds, rta: &Rta) -> bool
     )
 }
 
+/// Whether octets begin with an attestation that is granted under these supplies, where they are
+/// the issuer alone.
+fn check_supplied(
+    alloc: Global,
+    octets: Bytes,
+    grounds: &Grounds,
+    supplies: &[Supply<'_>],
+) -> Result<Rta, CheckError>
+    ensures { map supply_in supplies.now ≡ supply_on grounds.now ∷ []
+        → GrantsOn grounds.now octets result }
+{
+    check::rta(alloc, octets, true, &Rsa, grounds.moment, supplies)
+}
+
 /// Whether octets begin with an attestation that is granted on these grounds.
 fn check_granted(alloc: Global, octets: Bytes, grounds: &Grounds) -> Result<Rta, CheckError>
     ensures { GrantsOn grounds.now octets result }
 {
     let supplies = [Supplied::Ca(&grounds.issuer)];
-    check::rta(alloc, octets, true, &Rsa, grounds.moment, &supplies)
+    check_supplied(alloc, octets, grounds, &supplies)
 }
 
 /// What is found of octets on these grounds.

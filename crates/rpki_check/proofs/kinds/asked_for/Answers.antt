@@ -12,5 +12,5 @@ pub returns-in-None : goal.returns-in-None
 returns-in-None c = inr (
   refl,
   none-asked (mode_of c.args.strict) c.args.number c.args.octets.now c.if-number-eq0.false
-      c.if-number-eq5.false c.in-None.ensures,
+      c.if-number-eq-ATTESTATION.false c.in-None.ensures,
 )
