@@ -1,7 +1,6 @@
 -- A question has one moment, the same lists and one issuer, and is not refused where it has them.
 use Rattle.std.proofs.Common.{◌≡◌, ◌∙◌, inl, inr, ℕ, zero, suc, ◌<◌, List, [], ◌∷◌, length, get_or}
-use Rattle.std.proofs.Common.{Bool, true, false, Result, Ok, Err, refl, sym, ap, arith, subst}
-use Rattle.std.specs.List.{Any}
+use Rattle.std.proofs.Common.{Bool, true, false, Ok, Err, refl, sym, ap, arith, subst}
 use Rattle.rpki_der.specs.declared.error.DecodeError.{DecodeError}
 use Rattle.rpki_der.specs.declared.error.DecodeError.TheVariants as decoding
 use Rattle.rpki_der.specs.declared.mode.Mode.TheVariants.{Der}
