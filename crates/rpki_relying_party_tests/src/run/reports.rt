@@ -260,7 +260,8 @@ static LACKING: [(&str, Asked, Wanted); 4] = [
             "origin AS65100 192.0.2.0/24\n",
             "refused rsync://h/m/b/b.mft: manifest is not in the copy \
              (under rsync://h/m/t/t.mft, one)\n\
-             refused rsync://h/m/t/t.mft: out of memory (under rsync://h/m/t/t.mft, one)\n\
+             refused rsync://h/m/t/t.mft: not read: 1 CA, out of memory \
+             (under rsync://h/m/t/t.mft, one)\n\
              refused rsync://h/m/t/x.roa: malformed (under rsync://h/m/t/t.mft, one)\n",
             0,
         ),
