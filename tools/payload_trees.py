@@ -837,9 +837,9 @@ def long_names(t, count):
 
 
 def deep_folder(t, count):
-    """So many files that are not good, below 440 folders in one another. It takes time: for each file
-    the system is asked for each folder, and goes down to it from the first."""
-    empty_files(t, count, folder=f"rsync://{HOST}/m/" + "hhhhhhh/" * 440)
+    """So many files that are not good, below as many folders in one another as a name may have. It takes
+    time: for each file the system is asked for each folder, and goes down to it from the first."""
+    empty_files(t, count, folder=f"rsync://{HOST}/m/" + f"{'h' * 55}/" * 61)
 
 
 # So many MiB of memory a run may take, where the hostile part of a tree spends the whole limit on the
