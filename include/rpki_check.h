@@ -9,8 +9,8 @@
  * none from a signal handler.
  *
  * What C has to see to: each pointer leads to as many items as its length or room
- * says (octets of a text, rows of others), or is NULL if that is 0; question, length
- * and count are not NULL; what a call writes overlaps nothing else that it
+ * says (octets of a text, rows of others), or is NULL if that is 0; question, edition,
+ * length and count are not NULL; what a call writes overlaps nothing else that it
  * is given; nobody changes what it reads while it runs; and there are 128 KiB of
  * stack. Octets may be any octets, and numbers any numbers. */
 #ifndef RPKI_CHECK_H
@@ -138,7 +138,7 @@ typedef struct rpki_question {
  * the chain or that of the object; unless memory runs out. Else it is the number of
  * the first check that fails. Octets after the object are ignored. The times of lists
  * are not looked at. Of an attestation, the issuer is the one CA under which it may be
- * granted, and lists count for its certificates.
+ * granted, and lists count for those of its certificates that this CA issued.
  *
  * The text is what a good object says, a line an item, as `rpki_verify check` has
  * them below its yes, or why there is none. It is UTF-8 without a 0 at its end.
