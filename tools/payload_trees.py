@@ -634,10 +634,12 @@ def addresses(family, items):
     return make.sequence(make.octet_string(bytes([0, family])), make.sequence(items))
 
 
-def list_more(t, ca, count):
-    """The manifest of a CA lists so many files that are not there, after its revocation list."""
+def list_more(t, ca, count, is_last=False):
+    """The manifest of a CA lists so many files that are not there, after its revocation list, or before
+    it."""
     digest = hashlib.sha256(ca.published()[ca.crl]).digest()
-    names = [(f"{ca.name}.crl", digest), *((f"{at}.roa", digest) for at in range(count))]
+    own, more = [(f"{ca.name}.crl", digest)] * ca.lists_it, [(f"{at}.roa", digest) for at in range(count)]
+    names = more + own if is_last else own + more
     listed = make.sequence(*(make.sequence(make.ia5(it), make.bits(digest)) for it, digest in names))
     times = make.generalized(SIGNED) + make.generalized(NEXT)
     content = make.sequence(make.integer(1), times, make.SHA256, listed)
@@ -836,6 +838,24 @@ def long_names(t, count):
     t.says(A + C + B, (h.manifest, f"0.roa {GONE}", t.top.manifest))
 
 
+def last_list(t, count):
+    """The same, with the revocation list after all of them. It takes time: the list is looked for among
+    the files."""
+    h = hostile(t, folder=LONG_FOLDER)
+    list_more(t, h, count, is_last=True)
+    t.says(A + C + B, (h.manifest, f"0.roa {GONE}", t.top.manifest))
+
+
+def no_list(t, count):
+    """A manifest of so many files without the revocation list, which is named below a folder of 25 times
+    as many octets. It takes time, as above, and all of it before the list is read."""
+    h = hostile(t, folder=f"rsync://{HOST}/m/{'h' * (25 * count)}/", manifest=f"rsync://{HOST}/m/h.mft")
+    h.lists_it = False
+    t.lose(h.crl)
+    list_more(t, h, count)
+    t.says(A + C + B, (h.manifest, "revocation list is not listed", t.top.manifest))
+
+
 def deep_folder(t, count):
     """So many files that are not good, below as many folders in one another as a name may have. It takes
     time: for each file the system is asked for each folder, and goes down to it from the first."""
@@ -872,6 +892,8 @@ HOSTILE = [
     ("ROAs of no octets below a long URI", long_refusals, 5_000, 50, 70_000),
     ("ROAs of no octets in a deep folder", deep_folder, 100, 10, 1_000),
     ("a manifest of many files below a long URI", long_names, 4_000, 100, 60_000),
+    ("a manifest of many files, and its list the last, below a long URI", last_list, 4_000, 100, 60_000),
+    ("a manifest of many files without its list, below a long URI", no_list, 4_000, 100, 60_000),
 ]
 
 

@@ -1,21 +1,26 @@
 -- What comes of looking for a revocation list.
 use Rattle.std.proofs.Common.{◌≡◌, ◌⊎◌, inl, inr, ℕ, List, [], ◌∷◌, ◌++◌, Contains, Option, None}
 use Rattle.std.proofs.Common.{Some, Result, Ok, Err, is_some, unwrap_or, true≢false, refl, sym, ap}
-use Rattle.std.proofs.Common.{subst, ◌∙◌, append_assoc, MatchOption}
-use Rattle.std.specs.Prelude.{IfOk}
-use Rattle.std.proofs.lemmas.List.{append-nil}
+use Rattle.std.proofs.Common.{subst, ◌∙◌, append_assoc, MatchOption, Bool, Bor, true, false, cond}
+use Rattle.std.specs.Prelude.{IfOk, codes, nat_eq}
+use Rattle.std.specs.List.{ends_with}
+use Rattle.std.specs.Str.{bytes_eq}
+use Rattle.std.proofs.lemmas.List.{append-nil, append_cancel_left}
+use Rattle.std.proofs.lemmas.Slice.Eq.{bytes_eq-Decides}
 use Rattle.std.proofs.lemmas.List.Elements.{Contains-append_cases, Contains-append_right}
 use Rattle.rpki_der.specs.declared.mode.Mode.TheVariants.{Der}
 use Rattle.rpki_der.specs.Form.Decodes.{IsOnlyFront}
 use Rattle.rpki_der.specs.Grammar.{HasNoFront}
 use Rattle.rpki_basics.specs.Moment.{Moment}
+use Rattle.rpki_basics.specs.Uri.{join_text}
 use Rattle.rpki_crls.specs.Crl.{RevocationList, KeptCrl, CrlForm}
 use Rattle.rpki_faults.specs.Checks.{AllHold, IsFirstFault}
 use Rattle.rpki_certs.specs.Cert.{Certificate}
 use Rattle.rpki_certs.specs.Validate.{Validated}
 use Rattle.rpki_certs.specs.Verify.{Verdict}
 use Rattle.rpki_files.specs.Manifest.{Manifest}
-use Rattle.rpki_files.specs.Manifest.Uris.{UriAndHash, uris_of}
+use Rattle.rpki_files.specs.Manifest.Files.{File}
+use Rattle.rpki_files.specs.Manifest.Uris.{UriAndHash, uri_of, uris_of}
 use Rattle.rpki_relying_party.specs.Costs.{ReadCosts, ReadStarts, ListCosts, ListStarts}
 use Rattle.rpki_relying_party.specs.Costs.{found_cost, opening_cost}
 use Rattle.rpki_relying_party.specs.Lacks.{HasBadList, IsLostFile, WhyNoList, list_checks}
@@ -29,8 +34,9 @@ use Rattle.rpki_relying_party.specs.declared.cause.ListFault.TheVariants as faul
 use Rattle.rpki_relying_party.specs.declared.cause.Stop.{Stop}
 use Rattle.rpki_relying_party.specs.declared.cause.Stop.TheVariants.{Memory, Refused}
 use Rattle.rpki_relying_party.specs.declared.list.List.{List as Found}
-use Rattle.rpki_relying_party.proofs.Lists.{nothing, contains-first, cons-cases}
+use Rattle.rpki_relying_party.proofs.Lists.{nothing, contains-first, cons-cases, mapped-from}
 use Rattle.rpki_relying_party.proofs.Outcomes.{none-spent, outcome-stops}
+use Rattle.rpki_relying_party.proofs.Repeating.{one-name}
 
 -- ---- a URI among those of files
 
@@ -84,6 +90,47 @@ pub is-nowhere : (uri : List ℕ) (all left : List UriAndHash) → AreOthers uri
 is-nowhere uri all left h e hash w =
     h.others hash (subst (λ (l : List UriAndHash). Contains l (uri, hash))
     (h.splits ∙ (ap (λ (l : List UriAndHash). h.before ++ l) e ∙ append-nil h.before)) w)
+
+-- ---- a name below a folder
+
+-- what stands after a folder and a slash
+pub after-slash : (o : Option (Bor (List ℕ))) (folder uri rest : List ℕ)
+    → ends_with nat_eq folder (codes "/") ≡ false → uri ≡ folder ++ rest
+    → MatchOption o ((name : List ℕ) → ¬ (rest ≡ codes "/" ++ name))
+    (λ name. rest ≡ codes "/" ++ name.now)
+    → MatchOption o ((name : List ℕ) → ¬ (uri ≡ join_text folder name))
+    (λ name. uri ≡ join_text folder name.now)
+after-slash None folder uri rest f e h = λ name g.
+    h name (append_cancel_left folder rest (codes "/" ++ name) (sym e ∙ g
+    ∙ ap (λ (t : Bool). cond t (folder ++ name) (folder ++ (codes "/" ++ name))) f))
+after-slash (Some name) folder uri rest f e h = e ∙ ap (λ (l : List ℕ). folder ++ l) h
+    ∙ sym (ap (λ (t : Bool). cond t (folder ++ name.now) (folder ++ (codes "/" ++ name.now))) f)
+
+module _ (folder uri : List ℕ) (all : List File) where
+  -- the URI is not below the folder
+  pub is-elsewhere : ((name : List ℕ) → ¬ (uri ≡ join_text folder name)) → (hash : List ℕ)
+      → ¬ Contains (uris_of folder all) (uri, hash)
+  is-elsewhere other hash w =
+      let f = mapped-from (uri_of folder) all (uri, hash) w in
+      other (f.0.file) (sym (ap (λ (x : UriAndHash). x.0) (f.2)))
+
+  module _ (left rest : List File) (file name hash : List ℕ) (e : uri ≡ join_text folder name)
+      (h : AreOthers uri (uris_of folder all) (uris_of folder left))
+      (l : left ≡ record { file = file; hash = hash } ∷ rest) where
+    next : uris_of folder left ≡ (join_text folder file, hash) ∷ uris_of folder rest
+    next = ap (λ (fs : List File). uris_of folder fs) l
+
+    pub is-named : true ≡ bytes_eq file name → Contains (uris_of folder all) (uri, hash)
+    is-named t = is-here uri (uris_of folder all) (uris_of folder left) (uris_of folder rest)
+        (join_text folder file) hash h next
+        (ap (λ (n : List ℕ). join_text folder n) ((bytes_eq-Decides file name).0 (sym t)) ∙ sym e)
+
+    pub is-other : false ≡ bytes_eq file name
+        → AreOthers uri (uris_of folder all) (uris_of folder rest)
+    is-other t = is-later uri (uris_of folder all) (uris_of folder left) (uris_of folder rest)
+        (join_text folder file) hash h next
+        (λ same. true≢false (sym ((bytes_eq-Decides file name).1
+        (one-name folder file name (same ∙ e))) ∙ sym t))
 
 -- ---- what it lacks
 

@@ -33,6 +33,7 @@ pub mod Filing
 pub mod Pointing
 pub mod OneAnchor
 pub mod OneCost
+pub mod AlikeCosts
 pub mod Publishing
 pub mod Publications
 pub mod Holding

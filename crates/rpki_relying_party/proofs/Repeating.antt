@@ -49,7 +49,7 @@ none-met set all left e empty = record {
 
 module _ (folder : List ℕ) where
   -- below one folder, one URI is that of one name
-  one-name : (a b : List ℕ) → join_text folder a ≡ join_text folder b → a ≡ b
+  pub one-name : (a b : List ℕ) → join_text folder a ≡ join_text folder b → a ≡ b
   one-name a b = by (ends_with nat_eq folder (codes "/"))
     where
       by : (t : Bool) → cond t (folder ++ a) (folder ++ (codes "/" ++ a))

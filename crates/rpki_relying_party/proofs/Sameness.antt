@@ -51,7 +51,7 @@ use Rattle.rpki_relying_party.specs.declared.kind.ListedKind.TheVariants as kind
 use Rattle.rpki_relying_party.specs.declared.place.Place.{Place}
 
 -- The second CA, with the key, the URIs and the sets of the first.
-abbrev mixed : Validated → Validated → Validated
+abbrev pub mixed : Validated → Validated → Validated
 mixed ca by = record by {
   cert = record (by.cert) {
     certificate = record (by.cert.certificate) {
@@ -77,7 +77,7 @@ mixed ca by = record by {
 }
 
 -- It is the second one, where places of both are alike.
-mixed-is : (p q : Place) → AreAlike p q → mixed p.ca q.ca ≡ q.ca
+pub mixed-is : (p q : Place) → AreAlike p q → mixed p.ca q.ca ≡ q.ca
 mixed-is p q e = λ i. record (q.ca) {
   cert = record (q.ca.cert) {
     certificate = record (q.ca.cert.certificate) {
@@ -138,7 +138,7 @@ module _ (s : Setting) (ca by : Validated) where
       holds = ((h.holds.0.0, good-to h.object (h.holds.0.0) (h.holds.0.1)), h.holds.1);
     }
 
-    content-to : (list : RevocationList) (cert : Certificate) (x : X)
+    pub content-to : (list : RevocationList) (cert : Certificate) (x : X)
         → HasContent s kind form ca list octets cert x
         → HasContent s kind form to list octets cert x
     content-to list cert x h = has-good-to (λ (o : Whole X).
@@ -187,7 +187,7 @@ module _ (s : Setting) (ca by : Validated) where
   -- ---- certificates
 
   module _ (list : RevocationList) (octets : List ℕ) where
-    ca-to : (v : Validated) → HasCa s ca list octets v → HasCa s to list octets v
+    pub ca-to : (v : Validated) → HasCa s ca list octets v → HasCa s to list octets v
     unfolding ca_validation IsValidatedUnder
     ca-to v h = record {
       cert = h.cert;
@@ -196,7 +196,7 @@ module _ (s : Setting) (ca by : Validated) where
       holds = h.holds;
     }
 
-    ca-from : (v : Validated) → HasCa s to list octets v → HasCa s ca list octets v
+    pub ca-from : (v : Validated) → HasCa s to list octets v → HasCa s ca list octets v
     unfolding ca_validation IsValidatedUnder
     ca-from v h = record {
       cert = h.cert;
@@ -310,7 +310,7 @@ module _ (s : Setting) (ca by : Validated) where
       (λ (o : Whole Manifest). (o.object.signed.cert ≡ signer) × (o.content ≡ manifest)) h
 
   module _ (folder uri : List ℕ) where
-    manifest-at-to : (signer : Certificate) (manifest : Manifest)
+    pub manifest-at-to : (signer : Certificate) (manifest : Manifest)
         → IsManifestAt s ca folder uri signer manifest
         → IsManifestAt s to folder uri signer manifest
     manifest-at-to signer manifest h = record {
@@ -342,7 +342,7 @@ module _ (s : Setting) (ca by : Validated) where
     no-manifest-to (manifests.Twice twice) h =
         (h.0, h.1, h.2, h.3, manifest-in-to (h.0) (h.1) (h.2) (h.4), h.5, h.6, h.7)
 
-    no-manifest-of-to : (cause : Cause) → WhyNoManifestOf s ca folder uri cause
+    pub no-manifest-of-to : (cause : Cause) → WhyNoManifestOf s ca folder uri cause
         → WhyNoManifestOf s to folder uri cause
     no-manifest-of-to (causes.Manifest fault) h = no-manifest-to fault h
     no-manifest-of-to cause h = absurd h
@@ -357,7 +357,7 @@ module _ (s : Setting) (ca by : Validated) where
       current = h.current;
     }
 
-    list-at-to : (signer : Certificate) (manifest : Manifest) (list_uri : List ℕ)
+    pub list-at-to : (signer : Certificate) (manifest : Manifest) (list_uri : List ℕ)
         (list : RevocationList) → IsListAt s ca folder signer manifest list_uri list
         → IsListAt s to folder signer manifest list_uri list
     list-at-to signer manifest list_uri list h = record {
@@ -369,7 +369,7 @@ module _ (s : Setting) (ca by : Validated) where
       unrevoked = h.unrevoked;
     }
 
-    no-list-to : (signer : Certificate) (manifest : Manifest) (cause : Cause)
+    pub no-list-to : (signer : Certificate) (manifest : Manifest) (cause : Cause)
         → WhyNoList s ca folder signer manifest cause → WhyNoList s to folder signer manifest cause
     no-list-to signer manifest (causes.List lists.Unlisted) h = h
     no-list-to signer manifest (causes.List lists.Malformed) h = h

@@ -2,7 +2,7 @@
 use Rattle.std.proofs.Common.{◌≡◌, ◌≢◌, ◌⊎◌, inl, inr, ℕ, ◌+◌, ◌-◌, ◌*◌, ◌<◌, ◌≤◌, List, [], ◌∷◌}
 use Rattle.std.proofs.Common.{◌++◌, append_assoc, get_or, Bool, Contains, All, map, refl, sym}
 use Rattle.std.proofs.Common.{subst, ap, ◌∙◌, arith, length, length-append}
-use Rattle.std.specs.Prelude.{IsTrue, IsPermutation, flat_map}
+use Rattle.std.specs.Prelude.{◌↔◌, IsTrue, IsPermutation, flat_map}
 use Rattle.std.proofs.lemmas.List.{append-nil, map-append, flat_map_more}
 use Rattle.std.proofs.lemmas.List.Quantifiers.{all_pairs_push}
 use Rattle.std.proofs.lemmas.List.Sums.{sum_by_push}
@@ -16,8 +16,9 @@ use Rattle.std.proofs.lemmas.Slice.Eq.{bytes_eq-Decides}
 use Rattle.rpki_relying_party.specs.declared.walk.Why.{Why}
 use Rattle.rpki_relying_party.specs.declared.walk.Why.TheVariants.{Limit, Memory}
 use Rattle.rpki_relying_party.specs.Walk.{Read, Left, Try, IsToldChild, IsMet, HasKey, IsWalk}
-use Rattle.rpki_relying_party.specs.Walk.{IsSmall, HasLacked, IsLastTry, places_read, places_left}
-use Rattle.rpki_relying_party.specs.Walk.{places_settled, places_told, spent_on, total, first_room}
+use Rattle.rpki_relying_party.specs.Walk.{IsSmall, HasLacked, IsLastTry, IsWholeTry, places_read}
+use Rattle.rpki_relying_party.specs.Walk.{places_left, places_settled, places_told, spent_on}
+use Rattle.rpki_relying_party.specs.Walk.{total, first_room}
 use Rattle.rpki_relying_party.specs.Steps.{Adds, ArePassed, IsTurn, IsVisit, WasLeft, WasCut}
 use Rattle.rpki_relying_party.specs.Steps.{WasRead, Spends, left_for}
 use Rattle.rpki_relying_party.proofs.Lists.{all-of, contains-first, contains-rest}
@@ -39,6 +40,13 @@ all-gone a r e = omega arith
 still-none : (r c : ℕ) → r ≡ 0 → r - c ≡ 0
 still-none r c e = omega arith
 
+some-room : (n : ℕ) → 0 < first_room n
+some-room n = omega arith
+
+for-memory : (w : Why) (r : ℕ) → 0 < r → (w ≡ Limit → r ≡ 0) → w ≡ Memory
+for-memory Limit r some h = absurd (omega (arith, some, h refl))
+for-memory Memory r some h = refl
+
 module _ {P X : Type 0} (tells : P → List X → List P → Type 0) (costs exceeds : P → ℕ → Type 0)
     (key : P → List ℕ) (listed had : X → Type 0) (first : Read P X) (limit : ℕ) where
   abbrev Run : (X → Type 0) → (X → Type 0) → ℕ → List (Left P) → (List ℕ → Bool)
@@ -46,6 +54,21 @@ module _ {P X : Type 0} (tells : P → List X → List P → Type 0) (costs exce
   Run lists has room unread read lacking spent waiting =
       IsRun tells costs exceeds key listed lists had has first limit room unread read lacking spent
       waiting
+
+  -- tries that lacked memory
+  abbrev AreWhole : List (Left P) → Type 0 → List (Try P) → Type 0
+  AreWhole unread Gone cuts =
+      All (λ u. IsWholeTry limit Gone (spent_on key cuts (key u.place)) u.tried) unread
+
+  still-whole : (unread : List (Left P)) (A B : Type 0) (cuts : List (Try P)) → (A → B)
+      → AreWhole unread A cuts → AreWhole unread B cuts
+  still-whole unread A B cuts f = All-weaker
+      (λ u. IsWholeTry limit A (spent_on key cuts (key u.place)) u.tried)
+      (λ u. IsWholeTry limit B (spent_on key cuts (key u.place)) u.tried)
+      (λ u h some. elim (h some) [
+        | inl e ↦ inl e
+        | inr a ↦ inr (f a)
+      ]) unread
 
   -- ---- some are passed over
   run-over : (lists has : X → Type 0) (room : ℕ) (unread : List (Left P))
@@ -80,6 +103,7 @@ module _ {P X : Type 0} (tells : P → List X → List P → Type 0) (costs exce
     small = r.small;
     rooms = r.rooms;
     left = r.left;
+    whole = r.whole;
     wasted = r.wasted;
     doubles = r.doubles;
     tried = r.tried;
@@ -110,7 +134,8 @@ module _ {P X : Type 0} (tells : P → List X → List P → Type 0) (costs exce
     -- ---- it is left: without a try, or after one for which there was no memory
     module _ (why : Why) (tried : ℕ) (lacking2 : List ℕ → Bool) (fits : tried ≤ room)
         (last : IsLastTry limit (spent (key p)) why tried) (full : why ≡ Limit → room ≡ 0)
-        (memory : why ≡ Memory → IsTrue (lacking2 (key p)))
+        (whole : 0 < tried → (tried ≡ spent (key p) + first_room limit) ⊎ (tried ≡ room))
+        (memory : (why ≡ Memory) ↔ IsTrue (lacking2 (key p)))
         (how : ((tried ≡ 0) × (lacking2 ≡ lacking))
         ⊎ ((0 < tried) × Adds (key p) lacking lacking2 × ¬ IsTrue (lacking (key p)))) where
       abbrev left : Left P
@@ -147,6 +172,21 @@ module _ {P X : Type 0} (tells : P → List X → List P → Type 0) (costs exce
           | inr h ↦ (h.1 k).1 (inr (sym (w.2) ∙ ap (λ (u : Left P). key u.place) s))
         ])
       ]
+
+      -- those that were left for memory are those whose keys lack it
+      for-lack : (u : Left P) → Contains unread u
+          → (u.why ≡ Memory) ↔ IsTrue (lacking2 (key u.place))
+      for-lack u c =
+          let was = All-contains (λ u. (u.why ≡ Memory) ↔ IsTrue (lacking (key u.place))) unread u
+          r.lacked c in (
+            λ m. still-lacks (key u.place) (was.0 m),
+            λ t. elim how [
+              | inl h ↦
+                  was.1 (subst (λ (l : List ℕ → Bool). IsTrue (l (key u.place))) (h.1) t)
+              | inr h ↦ for-memory u.why room (omega (arith, h.0, fits))
+                  (All-contains (λ u. u.why ≡ Limit → room ≡ 0) unread u r.full c)
+            ],
+          )
 
       once-more : (u : Left P) → Contains unread u → 0 < u.tried → 0 < tried
           → key u.place ≢ key p
@@ -189,6 +229,15 @@ module _ {P X : Type 0} (tells : P → List X → List P → Type 0) (costs exce
         left = All-push
             (λ u. IsLastTry limit (spent_on key r.cuts (key u.place)) u.why u.tried) unread left
             r.left (subst (λ (n : ℕ). IsLastTry limit n why tried) (r.counts (key p)) last);
+        whole = All-push
+            (λ u. IsWholeTry limit (room - tried ≡ 0) (spent_on key r.cuts (key u.place)) u.tried)
+            unread left
+            (still-whole unread (room ≡ 0) (room - tried ≡ 0) r.cuts (still-none room tried)
+            r.whole)
+            (λ some. elim (whole some) [
+              | inl e ↦ inl (omega (arith, e, r.counts (key p)))
+              | inr all ↦ inr (all-gone tried room all)
+            ]);
         wasted = r.wasted;
         doubles = elim r.doubles [
           | inl z ↦ inl (still-none room tried z)
@@ -196,10 +245,9 @@ module _ {P X : Type 0} (tells : P → List X → List P → Type 0) (costs exce
         ];
         tried = r.tried;
         lacks = λ k. (has-lacked k, is-lacking k);
-        lacked = All-push (λ u. u.why ≡ Memory → IsTrue (lacking2 (key u.place))) unread left
-            (All-weaker (λ u. u.why ≡ Memory → IsTrue (lacking (key u.place)))
-            (λ u. u.why ≡ Memory → IsTrue (lacking2 (key u.place)))
-            (λ u h m. still-lacks (key u.place) (h m)) unread r.lacked) memory;
+        lacked = All-push (λ u. (u.why ≡ Memory) ↔ IsTrue (lacking2 (key u.place))) unread left
+            (all-of (λ u. (u.why ≡ Memory) ↔ IsTrue (lacking2 (key u.place))) unread for-lack)
+            memory;
         lacked_once = all_pairs_push
             (λ u v. 0 < u.tried → 0 < v.tried → key u.place ≢ key v.place) unread left
             r.lacked_once (λ i d within.
@@ -228,7 +276,7 @@ module _ {P X : Type 0} (tells : P → List X → List P → Type 0) (costs exce
       -- its reading was cut
       module _ (more : exceeds p allowed) (spent2 : List ℕ → ℕ)
           (spends : Spends (key p) allowed spent spent2)
-          (grows : (allowed ≡ room) ⊎ (spent (key p) < allowed)) where
+          (whole : (allowed ≡ spent (key p) + first_room limit) ⊎ (allowed ≡ room)) where
         abbrev try : Try P
         try = record { place = p; room = allowed }
 
@@ -244,6 +292,12 @@ module _ {P X : Type 0} (tells : P → List X → List P → Type 0) (costs exce
         same s c = spent-else key r.cuts p allowed (key s.place)
             (differ (key p) (key s.place) (λ e. unknown ((r.once.keyed (key p)).1
             (s.place, contains-mapped (λ (s : Read P X). s.place) r.reads s c, sym e))))
+
+        -- nor on one that lacked memory
+        same-left : (u : Left P) → Contains unread u → 0 < u.tried
+            → spent_on key cuts2 (key u.place) ≡ spent_on key r.cuts (key u.place)
+        same-left u c had = spent-else key r.cuts p allowed (key u.place) (differ (key p)
+            (key u.place) (λ e. untried ((r.lacks (key p)).1 (u, c, sym e, had))))
 
         last-try : (n m : ℕ) (why : Why) (tried : ℕ) → n ≤ m → IsLastTry limit n why tried
             → IsLastTry limit m why tried
@@ -298,11 +352,19 @@ module _ {P X : Type 0} (tells : P → List X → List P → Type 0) (costs exce
               (λ u h. last-try (spent_on key r.cuts (key u.place))
               (spent_on key cuts2 (key u.place)) u.why u.tried (more-spent (key u.place)) h) unread
               r.left;
+          whole = all-of (λ u.
+              IsWholeTry limit (room - allowed ≡ 0) (spent_on key cuts2 (key u.place)) u.tried)
+              unread (λ u c had. elim (All-contains
+              (λ u. IsWholeTry limit (room ≡ 0) (spent_on key r.cuts (key u.place)) u.tried) unread
+              u r.whole c had) [
+                | inl e ↦ inl (omega (arith, e, same-left u c had))
+                | inr z ↦ inr (still-none room allowed z)
+              ]);
           wasted = small-once key r.cuts p allowed all-small;
-          doubles = elim grows [
-            | inl all ↦ inl (all-gone allowed room all)
-            | inr less ↦ inr (small-more key r.cuts p allowed all-small
-                (omega (arith, less, r.counts (key p))))
+          doubles = elim whole [
+            | inl more ↦ inr (small-more key r.cuts p allowed all-small
+                (omega (arith, more, some-room limit, r.counts (key p))))
+            | inr all ↦ inl (all-gone allowed room all)
           ];
           tried = all-of
               (λ s. IsSmall key cuts2 2 (key s.place) (spent_on key cuts2 (key s.place))) r.reads
@@ -340,8 +402,8 @@ module _ {P X : Type 0} (tells : P → List X → List P → Type 0) (costs exce
             by Limit l = no-room allowed room some fits
                 (All-contains (λ u. u.why ≡ Limit → room ≡ 0) unread u r.full i l)
             by Memory m = untried (subst (λ (j : List ℕ). IsTrue (lacking j)) e
-                (All-contains (λ u. u.why ≡ Memory → IsTrue (lacking (key u.place))) unread u
-                r.lacked i m))
+                ((All-contains (λ u. (u.why ≡ Memory) ↔ IsTrue (lacking (key u.place))) unread u
+                r.lacked i).0 m))
 
         fresh2 : (u : Left P) → Contains unread u → ¬ IsTrue (read2 (key u.place))
         fresh2 u i t = elim ((adds (key u.place)).0 t) [
@@ -424,6 +486,7 @@ module _ {P X : Type 0} (tells : P → List X → List P → Type 0) (costs exce
               (r.begun.0) now r.small (omega (arith, cheap, most, r.counts (key p)));
           rooms = r.rooms;
           left = r.left;
+          whole = still-whole unread (room ≡ 0) (room - c ≡ 0) r.cuts (still-none room c) r.whole;
           wasted = r.wasted;
           doubles = inr all-small;
           tried = All-push
@@ -451,13 +514,13 @@ module _ {P X : Type 0} (tells : P → List X → List P → Type 0) (costs exce
 
     run-untried : (p : P) (unread : List (Left P)) (waiting : List P) → At unread (p ∷ waiting)
         → ¬ IsTrue (read (key p)) → (why : Why) → IsLastTry limit (spent (key p)) why 0
-        → (why ≡ Limit → room ≡ 0) → (why ≡ Memory → IsTrue (lacking (key p)))
+        → (why ≡ Limit → room ≡ 0) → (why ≡ Memory) ↔ IsTrue (lacking (key p))
         → At (unread ++ left_for p why 0 ∷ []) waiting
     run-untried p unread waiting r unknown why last full memory =
         subst (λ (m : ℕ). Run lists has m (unread ++ left_for p why 0 ∷ []) read lacking spent
         waiting) untaken
         (run-left lists has room unread read lacking spent p waiting r unknown why 0 lacking
-        (omega arith) last full memory (inl (refl, refl)))
+        (omega arith) last full (λ some. absurd (omega (arith, some))) memory (inl (refl, refl)))
 
     run-lacking : (ps : List P) (unread : List (Left P)) (waiting : List P)
         → At unread (ps ++ waiting) → ((p : P) → Contains ps p → IsLacking p)
@@ -470,7 +533,7 @@ module _ {P X : Type 0} (tells : P → List X → List P → Type 0) (costs exce
         (append_assoc unread (left_for p Memory 0 ∷ []) (without ps))
         (run-lacking ps (unread ++ left_for p Memory 0 ∷ []) waiting
         (run-untried p unread (ps ++ waiting) r (now.0) Memory (omega arith) (λ l. cc)
-        (λ m. now.1)) (λ q c. h q (contains-rest p q ps c)))
+        (λ m. now.1, λ t. refl)) (λ q c. h q (contains-rest p q ps c)))
 
     pub run-passed : (unread unread2 : List (Left P)) (waiting waiting2 : List P)
         → At unread waiting → ArePassed key read lacking unread unread2 waiting waiting2
@@ -491,8 +554,11 @@ module _ {P X : Type 0} (tells : P → List X → List P → Type 0) (costs exce
       subst (λ (l : List (Left P)). At l waiting2) (sym u)
           (run-untried p mid-unread waiting2
           (run-passed unread mid-unread waiting (p ∷ waiting2) r n.passed)
-          (subst (λ (j : List ℕ). ¬ IsTrue (read j)) n.its n.fresh) Limit refl (λ l. none-left)
-          (λ l. cc)),
+          (subst (λ (j : List ℕ). ¬ IsTrue (read j)) n.its n.fresh) Limit refl (λ l. none-left) (
+            λ l. cc,
+            λ t. absurd
+                (subst (λ (j : List ℕ). ¬ IsTrue (lacking j)) n.its n.untried t),
+          )),
       none-left,
     )
       where
@@ -517,7 +583,7 @@ module _ {P X : Type 0} (tells : P → List X → List P → Type 0) (costs exce
       (r0 : Run (lists found) (has found) room unread0 read lacking spent waiting0)
       (n : IsTurn key read lacking unread0 unread waiting0 waiting p k) (some : 0 < allowed)
       (fits : allowed ≤ room) (most : allowed ≤ spent k + first_room limit)
-      (grows : (allowed ≡ room) ⊎ (spent k < allowed)) where
+      (whole : (allowed ≡ spent k + first_room limit) ⊎ (allowed ≡ room)) where
     r : Run (lists found) (has found) room unread read lacking spent (p ∷ waiting)
     r = run-passed (lists found) (has found) room read lacking spent unread0 unread waiting0
         (p ∷ waiting) r0 n.passed
@@ -534,6 +600,9 @@ module _ {P X : Type 0} (tells : P → List X → List P → Type 0) (costs exce
 
     most-of : allowed ≤ spent (key p) + first_room limit
     most-of = with-key (λ j. allowed ≤ spent j + first_room limit) most
+
+    whole-of : (allowed ≡ spent (key p) + first_room limit) ⊎ (allowed ≡ room)
+    whole-of = with-key (λ j. (allowed ≡ spent j + first_room limit) ⊎ (allowed ≡ room)) whole
 
     abbrev After : F → ℕ → List (Left P) → (List ℕ → Bool) → (List ℕ → Bool) → (List ℕ → ℕ)
         → List P → Type 0
@@ -553,8 +622,8 @@ module _ {P X : Type 0} (tells : P → List X → List P → Type 0) (costs exce
         (subst (λ (q : List P). After found allowed now read lacking2 spent q)
         (sym u.same_waiting)
         (run-left (lists found) (has found) room unread read lacking spent p waiting r unknown
-        Memory allowed lacking2 fits most-of (λ l. cc) (λ m. (lacks (key p)).1 (inr refl))
-        (inr (some, lacks, untried))))))))
+        Memory allowed lacking2 fits most-of (λ l. cc) (λ t. whole-of)
+        (λ m. (lacks (key p)).1 (inr refl), λ t. refl) (inr (some, lacks, untried))))))))
       where
         now : List (Left P)
         now = unread ++ left_for p Memory allowed ∷ []
@@ -578,8 +647,7 @@ module _ {P X : Type 0} (tells : P → List X → List P → Type 0) (costs exce
         (p ∷ waiting) waiting2
         (run-cut (lists found) (has found) room unread read lacking spent p waiting r unknown
         untried allowed some fits most-of u.more spent2
-        (with-key (λ j. Spends j allowed spent spent2) u.spends)
-        (with-key (λ j. (allowed ≡ room) ⊎ (spent j < allowed)) grows)) u.waits)))))
+        (with-key (λ j. Spends j allowed spent spent2) u.spends) whole-of) u.waits)))))
 
     read-then : WasRead tells costs lists has p k allowed done found found2 unread unread2 read
         read2 lacking lacking2 spent spent2 waiting waiting2
@@ -682,10 +750,15 @@ module _ {P X : Type 0} (tells : P → List X → List P → Type 0) (costs exce
       small = r.small;
       rooms = r.rooms;
       left = r.left;
+      whole = still-whole unread (room ≡ 0) (total r.reads unread r.cuts ≡ limit) r.cuts
+          (λ z. omega (arith, r.exact, z)) r.whole;
       wasted = r.wasted;
       tried = r.tried;
-      lacked = All-weaker (λ u. u.why ≡ Memory → IsTrue (lacking (key u.place)))
-          (λ u. u.why ≡ Memory → HasLacked key unread (key u.place))
-          (λ u h m. (r.lacks (key u.place)).0 (h m)) unread r.lacked;
+      lacked = All-weaker (λ u. (u.why ≡ Memory) ↔ IsTrue (lacking (key u.place)))
+          (λ u. (u.why ≡ Memory) ↔ HasLacked key unread (key u.place))
+          (λ u h. (
+            λ m. (r.lacks (key u.place)).0 (h.0 m),
+            λ w. h.1 ((r.lacks (key u.place)).1 w),
+          )) unread r.lacked;
       lacked_once = r.lacked_once;
     }

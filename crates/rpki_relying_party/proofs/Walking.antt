@@ -9,8 +9,8 @@ use Rattle.std.proofs.lemmas.List.Sorted.{IsPermutation-cons}
 use Rattle.rpki_relying_party.specs.declared.walk.Why.TheVariants.{Limit, Memory}
 use Rattle.rpki_relying_party.specs.Paths.{Leads}
 use Rattle.rpki_relying_party.specs.Walk.{Read, Left, Try, IsMet, HasKey, IsSmall, HasLacked}
-use Rattle.rpki_relying_party.specs.Walk.{IsLastTry, places_read, places_settled, places_told}
-use Rattle.rpki_relying_party.specs.Walk.{spent_on, total, first_room}
+use Rattle.rpki_relying_party.specs.Walk.{IsLastTry, IsWholeTry, places_read, places_settled}
+use Rattle.rpki_relying_party.specs.Walk.{places_told, spent_on, total, first_room}
 use Rattle.rpki_relying_party.specs.Steps.{Adds, IsHeard}
 use Rattle.rpki_relying_party.proofs.Lists.{nothing, all-of, contains-first, distinct-none}
 use Rattle.rpki_relying_party.proofs.Settling.{AreKeyed, one-key}
@@ -60,11 +60,13 @@ pub record IsRun {P X : Type 0} (tells : P → List X → List P → Type 0)
   pub small : All (λ r. r.cost ≤ spent_on key cuts (key r.place) + first_room limit) (begun.0)
   pub rooms : All (λ t. 2 * t.room ≤ spent_on key cuts (key t.place) + first_room limit) cuts
   pub left : All (λ u. IsLastTry limit (spent_on key cuts (key u.place)) u.why u.tried) unread
+  pub whole :
+      All (λ u. IsWholeTry limit (room ≡ 0) (spent_on key cuts (key u.place)) u.tried) unread
   pub wasted : (k : List ℕ) → IsSmall key cuts 3 k (spent_on key cuts k)
   pub doubles : (room ≡ 0) ⊎ ((k : List ℕ) → IsSmall key cuts 2 k (spent_on key cuts k))
   pub tried : All (λ r. IsSmall key cuts 2 (key r.place) (spent_on key cuts (key r.place))) reads
   pub lacks : (k : List ℕ) → IsTrue (lacking k) ↔ HasLacked key unread k
-  pub lacked : All (λ u. u.why ≡ Memory → IsTrue (lacking (key u.place))) unread
+  pub lacked : All (λ u. (u.why ≡ Memory) ↔ IsTrue (lacking (key u.place))) unread
   pub lacked_once :
       AllPairs (λ u v. 0 < u.tried → 0 < v.tried → key u.place ≢ key v.place) unread
 
@@ -143,11 +145,13 @@ module _ {P X F : Type 0} (tells : P → List X → List P → Type 0) (costs ex
         small = All-nil (λ r. r.cost ≤ spent_on key [] (key r.place) + first_room limit);
         rooms = All-nil (λ t. 2 * t.room ≤ spent_on key [] (key t.place) + first_room limit);
         left = All-nil (λ u. IsLastTry limit (spent_on key [] (key u.place)) u.why u.tried);
+        whole = All-nil (λ u. IsWholeTry limit (limit - first.cost ≡ 0)
+            (spent_on key [] (key u.place)) u.tried);
         wasted = λ j. inl refl;
         doubles = inr (λ j. inl refl);
         tried = All-cons Untried first [] (inl refl) (All-nil Untried);
         lacks = λ j. (λ t. absurd (untried j t), λ w. absurd (nothing (w.0) (w.1)));
-        lacked = All-nil (λ u. u.why ≡ Memory → IsTrue (lacking (key u.place)));
+        lacked = All-nil (λ u. (u.why ≡ Memory) ↔ IsTrue (lacking (key u.place)));
         lacked_once = λ i j d lt within. absurd (omega (arith, within));
       }
 

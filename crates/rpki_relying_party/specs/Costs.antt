@@ -46,8 +46,8 @@ found_cost price (Err why) = price
 abbrev pub payload_cost : ℕ
 payload_cost = 2048
 
--- what a place takes that waits: 16,384, and 8 for each octet of its certificate and 1,024 for each
--- block of its sets
+-- what a place takes that waits: 16,384, and 8 for each octet of the file with its certificate,
+-- also of those after it, and 1,024 for each block of its sets
 abbrev pub waiting_cost : List ℕ → Validated → ℕ
 waiting_cost octets v = 16384 + 8 * length octets + 1024 * blocks_of v
 

@@ -81,7 +81,7 @@ pub record IsHeard {P X F : Type 0} (lists has : F → X → Type 0) (k : List �
   pub met : AreMet children waiting waiting2
 
 -- Some of those that waited were passed over, since their keys were read, and some were left, since
--- their keys lacked memory; the others wait.
+-- tries of their keys ran out of memory; the others wait.
 pub record ArePassed {P : Type 0} (key : P → List ℕ) (read lacking : List ℕ → Bool)
     (unread unread2 : List (Left P)) (waiting waiting2 : List P) : Type 0 where
   pub passed : List P
@@ -91,8 +91,8 @@ pub record ArePassed {P : Type 0} (key : P → List ℕ) (read lacking : List �
   pub now : unread2 ≡ unread ++ map (λ p. left_for p Memory 0) left
   pub split : IsPermutation waiting (passed ++ (left ++ waiting2))
 
--- The turn is that of a place with this key, which was not read, and did not lack memory. Those that
--- waited before it are passed over or left.
+-- The turn is that of a place with this key, which was not read, and of which no try ran out of
+-- memory. Those that waited before it are passed over or left.
 pub record IsTurn {P : Type 0} (key : P → List ℕ) (read lacking : List ℕ → Bool)
     (unread unread2 : List (Left P)) (waiting waiting2 : List P) (p : P) (k : List ℕ)
     : Type 0 where
@@ -101,8 +101,8 @@ pub record IsTurn {P : Type 0} (key : P → List ℕ) (read lacking : List ℕ �
   pub fresh : ¬ IsTrue (read k)
   pub untried : ¬ IsTrue (lacking k)
 
--- It was left for want of memory, which its key lacks now: all the room was spent, and nothing was
--- met or found.
+-- It was left, since its try ran out of memory: all the room was spent, and nothing was met or
+-- found.
 pub record WasLeft {P F : Type 0} (p : P) (k : List ℕ) (room done : ℕ) (found found2 : F)
     (unread unread2 : List (Left P)) (read read2 lacking lacking2 : List ℕ → Bool)
     (spent spent2 : List ℕ → ℕ) (waiting waiting2 : List P) : Type 0 where

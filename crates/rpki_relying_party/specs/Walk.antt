@@ -1,7 +1,7 @@
 -- A walk over places: what was read, and what was left unread.
-use Rattle.std.specs.Prelude.{◌≡◌, ◌≢◌, ◌⊎◌, ℕ, ◌+◌, ◌*◌, ◌/◌, ◌<◌, ◌≤◌, List, ◌∷◌, ◌++◌, Contains}
-use Rattle.std.specs.Prelude.{All, AllPairs, IsPermutation, bytes_eq, flat_map, map, sum_by}
-use Rattle.std.specs.Prelude.{if◌then◌else◌}
+use Rattle.std.specs.Prelude.{◌≡◌, ◌≢◌, ◌↔◌, ◌⊎◌, ℕ, ◌+◌, ◌*◌, ◌/◌, ◌<◌, ◌≤◌, List, ◌∷◌, ◌++◌}
+use Rattle.std.specs.Prelude.{Contains, All, AllPairs, IsPermutation, bytes_eq, flat_map, map}
+use Rattle.std.specs.Prelude.{sum_by, if◌then◌else◌}
 use Rattle.rpki_relying_party.specs.Paths.{Leads}
 use Rattle.rpki_relying_party.specs.declared.walk.Why.{Why}
 use Rattle.rpki_relying_party.specs.declared.walk.Why.TheVariants.{Limit, Memory}
@@ -13,8 +13,8 @@ pub record Read (P X : Type 0) : Type 0 where
   pub children : List P
   pub cost : ℕ
 
--- a place that was met and left unread, and how much its last try took, for which there was no
--- memory: none, if it had no such try
+-- a place that was met and left unread, and how much its last try took, which ran out of memory:
+-- none, if it had no such try
 pub record Left (P : Type 0) : Type 0 where
   pub place : P
   pub why : Why
@@ -37,7 +37,7 @@ places_left unread = map (λ u. u.place) unread
 abbrev pub places_settled : {P X : Type 0} → List (Read P X) → List (Left P) → List P
 places_settled reads unread = places_read reads ++ places_left unread
 
--- the start, and the children that were told, each as often as it was
+-- the start, and the children that were listed, each as often as it was
 abbrev pub places_told : {P X : Type 0} → P → List (Read P X) → List P
 places_told start reads = start ∷ flat_map (λ r. r.children) reads
 
@@ -45,8 +45,7 @@ places_told start reads = start ∷ flat_map (λ r. r.children) reads
 abbrev pub spent_on : {P : Type 0} → (P → List ℕ) → List (Try P) → List ℕ → ℕ
 spent_on key cuts k = sum_by (λ t. if bytes_eq (key t.place) k then t.room else 0) cuts
 
--- how much work all was: the reads, the tries for which there was no memory, and those that were
--- cut
+-- how much work all was: the reads, the tries that ran out of memory, and those that were cut
 abbrev pub total : {P X : Type 0} → List (Read P X) → List (Left P) → List (Try P) → ℕ
 total reads unread cuts =
     sum_by (λ r. r.cost) reads + (sum_by (λ u. u.tried) unread + sum_by (λ t. t.room) cuts)
@@ -55,12 +54,12 @@ total reads unread cuts =
 abbrev pub first_room : ℕ → ℕ
 first_room limit = limit / 8192 + 1
 
--- When the first place was read, it told that the second is its child.
+-- When the first place was read, it listed the second as its child.
 abbrev pub IsToldChild : {P X : Type 0} → List (Read P X) → P → P → Type 0
 IsToldChild {P} {X} reads p child =
     (r : Read P X) × Contains reads r × (r.place ≡ p) × Contains r.children child
 
--- A chain of children that were told leads from the start to this place.
+-- A chain of children that were listed leads from the start to this place.
 abbrev pub IsMet : {P X : Type 0} → P → List (Read P X) → P → Type 0
 IsMet {P} start reads p = (path : List P) × Leads (IsToldChild reads) start path p
 
@@ -74,17 +73,22 @@ abbrev pub IsSmall : {P : Type 0} → (P → List ℕ) → List (Try P) → ℕ 
 IsSmall {P} key cuts times k spent = (spent ≡ 0)
     ⊎ ((t : Try P) × Contains cuts t × (key t.place ≡ k) × (spent ≤ times * t.room))
 
--- A place with the key was tried, for which there was no memory.
+-- A place with the key was left after a try that took some work and ran out of memory.
 abbrev pub HasLacked : {P : Type 0} → (P → List ℕ) → List (Left P) → List ℕ → Type 0
 HasLacked {P} key unread k =
     (u : Left P) × Contains unread u × (key u.place ≡ k) × (0 < u.tried)
 
 -- How much the last try of a place took that was left for this: there was none, where no work was
--- left for it; where memory was wanting, it had as much room as cut tries of its key had taken, and
+-- left for it; one that ran out of memory had as much room as cut tries of its key had taken, and
 -- the first room, at most.
 abbrev pub IsLastTry : ℕ → ℕ → Why → ℕ → Type 0
 IsLastTry limit spent Limit tried = tried ≡ 0
 IsLastTry limit spent Memory tried = tried ≤ spent + first_room limit
+
+-- A try that ran out of memory, if there was one, took all its room: as much as cut tries of its
+-- key had taken, and the first room; or what was left of the limit, which is spent then.
+abbrev pub IsWholeTry : ℕ → Type 0 → ℕ → ℕ → Type 0
+IsWholeTry limit Gone spent tried = 0 < tried → (tried ≡ spent + first_room limit) ⊎ Gone
 
 -- What was read, this first, and what was found and left unread then.
 pub record IsWalk {P X : Type 0} (tells : P → List X → List P → Type 0)
@@ -123,11 +127,13 @@ pub record IsWalk {P X : Type 0} (tells : P → List X → List P → Type 0)
   pub small : All (λ r. r.cost ≤ spent_on key cuts (key r.place) + first_room limit) (begun.0)
   pub rooms : All (λ t. 2 * t.room ≤ spent_on key cuts (key t.place) + first_room limit) cuts
   pub left : All (λ u. IsLastTry limit (spent_on key cuts (key u.place)) u.why u.tried) unread
+  pub whole : All (λ u. IsWholeTry limit (total reads unread cuts ≡ limit)
+      (spent_on key cuts (key u.place)) u.tried) unread
   -- what was spent on tries of a key is little beside what reading one of its places costs, however
-  -- often it was told
+  -- often one was listed
   pub wasted : (k : List ℕ) → IsSmall key cuts 3 k (spent_on key cuts k)
   pub tried : All (λ r. IsSmall key cuts 2 (key r.place) (spent_on key cuts (key r.place))) reads
-  -- a place was left for memory only where a try of its key lacked it: one try of each key
-  pub lacked : All (λ u. u.why ≡ Memory → HasLacked key unread (key u.place)) unread
+  -- a place was left for memory exactly where a try of its key ran out of it: one try of each key
+  pub lacked : All (λ u. (u.why ≡ Memory) ↔ HasLacked key unread (key u.place)) unread
   pub lacked_once :
       AllPairs (λ u v. 0 < u.tried → 0 < v.tried → key u.place ≢ key v.place) unread

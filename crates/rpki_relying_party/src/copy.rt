@@ -11,7 +11,7 @@ use std::fmt;
 /// Why a copy gives no file for a URI.
 #[derive(Clone, Copy, Debug, PartialEq, Eq)]
 pub enum NoFile {
-    /// It has none.
+    /// It has none, or does not look for it.
     Missing,
     /// What it has is no regular file, or is reached by a symbolic link.
     NotRegular,

@@ -88,18 +88,21 @@ pub fn publications_are_found<R: Repository, C: Crypto>(_pass: &Pass<'_, R, C>)
         → FindsPublished (setting R.finds C.digest_of C.is_signed _pass.now) tal new unread }
 {}
 
-/// How much work it is to read a place is one number, over such a copy: what reading it costs, and
-/// more than each number that it exceeds. So a try with as much room is never cut.
+/// Over such a copy, to read places that are alike is one number of work for all of them: each
+/// reading of one costs that, and what reading one exceeds is less. So a try of a key with as much
+/// room is never cut.
 pub fn work_is_one_number<R: Repository, C: Crypto>(pass: &Pass<'_, R, C>)
     ensures costs { FindsOne (setting R.finds C.digest_of C.is_signed pass.now)
-        → (place : Place) (m n : ℕ)
-        → PlaceCosts (setting R.finds C.digest_of C.is_signed pass.now) place m
-        → PlaceCosts (setting R.finds C.digest_of C.is_signed pass.now) place n
+        → (p q : Place) (m n : ℕ)
+        → AreAlike p q
+        → PlaceCosts (setting R.finds C.digest_of C.is_signed pass.now) p m
+        → PlaceCosts (setting R.finds C.digest_of C.is_signed pass.now) q n
         → m ≡ n }
     ensures exceeds { FindsOne (setting R.finds C.digest_of C.is_signed pass.now)
-        → (place : Place) (m n : ℕ)
-        → PlaceExceeds (setting R.finds C.digest_of C.is_signed pass.now) place m
-        → PlaceCosts (setting R.finds C.digest_of C.is_signed pass.now) place n
+        → (p q : Place) (m n : ℕ)
+        → AreAlike p q
+        → PlaceExceeds (setting R.finds C.digest_of C.is_signed pass.now) p m
+        → PlaceCosts (setting R.finds C.digest_of C.is_signed pass.now) q n
         → m < n }
 {}
 

@@ -1,10 +1,11 @@
 //! The revocation list of a publication point.
 
-ghost use Rattle.std.specs.Prelude.{◌≡◌, ◌↔◌, ◌⊎◌, ℕ, Contains, IfOk, IsTrue, MatchOption};
+ghost use Rattle.std.specs.Prelude.{◌≡◌, ◌++◌, ◌⊎◌, ℕ, Contains, IfOk, MatchOption};
 ghost use Rattle.std.specs.Prelude.{MatchResult, None, Some, List as ListOf};
 ghost use Rattle.rpki_der.specs.declared.mode.Mode.TheVariants.{Der};
 ghost use Rattle.rpki_der.specs.Form.Decodes.{IsOnlyFront};
 ghost use Rattle.rpki_der.specs.Grammar.{HasNoFront};
+ghost use Rattle.rpki_basics.specs.Uri.{join_text};
 ghost use Rattle.rpki_crls.specs.Crl.{CrlForm};
 ghost use Rattle.rpki_faults.specs.Checks.{AnswersFirstFault};
 ghost use Rattle.rpki_files.specs.Manifest.Uris.{uris_of};
@@ -24,7 +25,7 @@ use crate::pass::Pass;
 use crate::reader::{OPENING, read_listed};
 use crate::revoked::SortedCrl;
 use bytes::Bytes;
-use rpki_basics::{Crypto, Rsync, Time};
+use rpki_basics::{Crypto, DigestAlgorithm, Rsync, Time};
 use rpki_certs::{Cert, ResourceCert};
 use rpki_crls::Crl;
 use rpki_der::DecodeError;
@@ -38,14 +39,37 @@ pub(crate) struct List {
     pub crl: SortedCrl,
 }
 
-// Whether two URIs are the same.
-fn is_same(a: &Rsync, b: &Rsync) -> bool
-    ensures { IsTrue result ↔ (a.now ≡ b.now) }
+// What stands in octets after these, if they begin with them.
+fn after<'a>(octets: &'a [u8], front: &[u8]) -> Option<&'a [u8]>
+    ensures { MatchOption result ((rest : ListOf ℕ) → ¬ (octets.now ≡ front.now ++ rest))
+        (λ rest. octets.now ≡ front.now ++ rest.now) }
 {
-    a.as_slice() == b.as_slice()
+    octets.strip_prefix(front)
 }
 
-// The first file of a manifest that has this URI, with its hash.
+// The name of which a URI is that below a folder, if it is that of one.
+fn name_below<'a>(folder: &Rsync, uri: &'a Rsync) -> Option<&'a [u8]>
+    ensures { MatchOption result ((name : ListOf ℕ) → ¬ (uri.now ≡ join_text folder.now name))
+        (λ name. uri.now ≡ join_text folder.now name.now) }
+{
+    let rest = after(uri.as_slice(), folder.as_slice())?;
+    if folder.as_slice().ends_with(b"/") {
+        Some(rest)
+    } else {
+        after(rest, b"/")
+    }
+}
+
+// A hash of these octets.
+fn copy_hash(alloc: Global, octets: &[u8]) -> Result<ManifestHash, AllocError>
+    ensures { IfOk result (λ hash. hash ≡ octets.now) }
+{
+    let octets = Bytes::copy_from_slice(alloc, octets)?;
+    Ok(ManifestHash::new(octets, DigestAlgorithm::sha256()))
+}
+
+// The first file of a manifest that has this URI, with its hash. Names are compared, and not their
+// URIs, which all begin with the folder: so time follows the octets of the manifest.
 fn find_listed(
     alloc: Global,
     manifest: &ManifestContent,
@@ -56,15 +80,13 @@ fn find_listed(
         ((hash : ListOf ℕ) → ¬ Contains (uris_of folder.now manifest.now.files) (uri.now, hash))
         (λ hash. Contains (uris_of folder.now manifest.now.files) (uri.now, hash))) }
 {
-    let mut files = manifest.iter_uris(alloc, folder);
-    while let Some(item) = files.next() {
-        match item {
-            Err(error) => return Err(error),
-            Ok((listed, hash)) => {
-                if is_same(&listed, uri) {
-                    return Ok(Some(hash));
-                }
-            }
+    let Some(name) = name_below(folder, uri) else {
+        return Ok(None);
+    };
+    let mut files = manifest.iter();
+    while let Some(file) = files.next() {
+        if file.file == name {
+            return Ok(Some(copy_hash(alloc, file.hash)?));
         }
     }
     Ok(None)

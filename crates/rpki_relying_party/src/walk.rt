@@ -28,8 +28,8 @@ pub enum Why {
 pub struct Unread<P> {
     pub place: P,
     pub why: Why,
-    /// How much of the limit its last try took, for which there was no memory: none, where it was
-    /// left for the limit, or where there was no memory for another place with its key.
+    /// How much of the limit its last try took, which ran out of memory: none, where it was left
+    /// for the limit, or where a try of another place with its key ran out of memory.
     pub tried: u64,
 }
 
@@ -41,8 +41,8 @@ impl<P> Model for Unread<P> {
     ghost view = { λ u. record { place = u.place; why = u.why; tried = u.tried } };
 }
 
-// The keys of the places that were read, those for which there was no memory, how much was spent on
-// cut tries of each key, and the places that wait.
+// The keys of the places that were read, those of which a try ran out of memory, how much was spent
+// on cut tries of each key, and the places that wait.
 #[derive(Drop)]
 struct Front<P> {
     read: BTreeSet<Vec<u8>>,
@@ -87,7 +87,7 @@ fn count_cut(spent: &mut BTreeMap<Vec<u8>, u64>, key: Vec<u8>, room: u64) -> Res
     Ok(())
 }
 
-// These places are met, of which the one on this branch told, and wait.
+// These places are met, which the one on this branch lists, and wait.
 fn meet_all<P: Drop>(
     alloc: Global,
     children: Vec<P>,
@@ -167,8 +167,8 @@ fn visit<P: Places>(
     }
 }
 
-// A place is passed over, since one with its key was read; or it is left unread, since there was no
-// memory for one.
+// A place is passed over, since one with its key was read; or it is left unread, since a try of one
+// ran out of memory.
 fn pass_by<P: Drop>(place: P, is_read: bool, unread: &mut Vec<Unread<P>>) -> Result<(), AllocError>
     ensures { OnOk result (unread.new.items ≡ unread.old.items ++ passed_by place is_read) }
 {
@@ -243,7 +243,7 @@ fn room_for(spent: u64, limit: u64, left: u64) -> u64
     ensures some { 0 < result }
     ensures within { result ≤ left }
     ensures small { result ≤ spent + first_room limit }
-    ensures grows { (result ≡ left) ⊎ (spent < result) }
+    ensures whole { (result ≡ spent + first_room limit) ⊎ (result ≡ left) }
 {
     let wanted = spent.saturating_add(limit / 8192 + 1);
     if left < wanted { left } else { wanted }
@@ -253,20 +253,20 @@ fn room_for(spent: u64, limit: u64, left: u64) -> u64
 /// and so on. What the places say is put to `found`; the answer is the places that were met and
 /// left unread.
 ///
-/// Of each key one place is read, and others are passed over, whichever place told of them. Of a key
-/// of which none was read each place is left unread, as often as it was told: for the limit, only
-/// where the whole limit is spent; or for memory, where a try of the key lacked it. That try counts
-/// as all its room, and the key is not tried again.
+/// Of each key one place is read, and others are passed over, whichever place lists them. Of a key
+/// of which none was read each place is left unread, as often as it is listed: for memory, where a
+/// try of the key ran out of it; or else for the limit, and only where the whole limit is spent. A
+/// try that ran out of memory counts as all its room, and its key is not tried again.
 ///
 /// All work together is at most `limit`. A key is first tried with room for an 8192nd part of it,
 /// and one. A place whose reading is cut waits again. What was spent on it belongs to its key: the
 /// next try of a place with the key has as much room as all before, and the first room, though
 /// never more than is left. So tries that are cut cost each key at most twice what reading one of
-/// its places exceeds, or three times where none of them is read, however often it is told.
+/// its places exceeds, or three times where none of them is read, however often one is listed.
 ///
-/// A place that is told waits, even where its key was met before. So memory is in proportion to the
-/// number of children that all places told which were read, each as often as it was told, and to
-/// the keys of the places that were read, cut or left.
+/// A place that is listed waits, even where its key was met before. So memory is in proportion to
+/// the number of children that the places list which were read, each as often as it is listed, and
+/// to the keys of the places that were read, cut or left.
 ///
 /// What is new in `found` is said by a place to which a chain of children leads from the start.
 /// Where places with one key tell one thing, whenever they are read, something alike to all that a

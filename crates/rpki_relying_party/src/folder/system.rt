@@ -29,18 +29,18 @@ pub const MAX_FILE: u64 = 20_000_000;
 pub const MAX_PARTS: usize = 64;
 
 /// The folders of the system. A file is a regular one of at most so many octets: its type and its
-/// size are asked before it is opened, and nothing else is opened, nor a file of more octets than are
-/// asked for. No symbolic link below the folder is followed; the folder itself may be reached by
-/// some.
+/// size are checked before it is opened, and nothing else is opened, nor a file of more octets than
+/// are asked for. No symbolic link below the folder is followed; the folder itself may be reached
+/// by some.
 ///
 /// The work of a read is in proportion to the octets of the file, and each part of the name is one
 /// question to the system. A name that is no UTF-8, or that has more than `MAX_PARTS` parts, is that
 /// of no file.
 ///
-/// Someone who may write to the folder while it is read can put another file in place of one between
-/// the question and the opening, such as a link, which is followed then, or a named pipe, which the
-/// system waits for. Once open, a file is asked again, and one octet is read at most beyond what it
-/// may have and what is asked for.
+/// Someone who may write to the folder while it is read can put something else in the place of a
+/// file after it was checked and before it is opened, such as a link, which is followed then, or a
+/// named pipe, which the system waits for. Once open, a file is checked again, and one octet is
+/// read at most beyond what it may have and what is asked for.
 #[derive(Drop)]
 pub struct SystemFolders<'a, R> {
     /// What reaches the system.
@@ -223,7 +223,7 @@ fn read_all<F: Read + Drop>(alloc: Global, reader: F, bounds: Bounds) -> Result<
     Ok(octets)
 }
 
-// The octets of a file that is read. It is asked again once it is open.
+// The octets of a file that is read. It is checked again once it is open.
 fn read_file<R: Files>(
     files: &R,
     alloc: Global,
@@ -260,9 +260,12 @@ fn read_below<R: Files>(
 
 impl<R: Files> Folders for SystemFolders<'_, R> {
     ghost use Rattle.std.specs.Prelude.{◌≤◌, IfOk, length};
+    ghost use Rattle.rpki_relying_party.specs.Folders.{HasFewParts};
 
-    // Any octets may be found that a file may have, and any reason why there are none.
-    ghost finds = { λ f _ _ found. IfOk found (λ octets. length octets ≤ f.max_file) };
+    // Any octets may be found that a file may have, under a name that is looked up, and any reason
+    // why there are none.
+    ghost finds = { λ f _ name found.
+        IfOk found (λ octets. (length octets ≤ f.max_file) × HasFewParts name) };
 
     fn read(
         &self,

@@ -5,8 +5,9 @@ use Rattle.rpki_relying_party.proofs.Crls.{AreOthers}
 use Rattle.rpki_relying_party.proofs.list.find_listed.Given as goal
 
 -- none of the others has the URI
-abbrev pub invariant-loop-item : goal.invariant-loop-item
-invariant-loop-item l = AreOthers l.uri (uris_of l.folder l.manifest.files) l.files
+abbrev pub invariant-loop-file : goal.invariant-loop-file
+invariant-loop-file l =
+    AreOthers l.uri (uris_of l.folder l.manifest.files) (uris_of l.folder l.files)
 
-abbrev pub decreases-loop-item : goal.decreases-loop-item
-decreases-loop-item l = length l.files
+abbrev pub decreases-loop-file : goal.decreases-loop-file
+decreases-loop-file l = length l.files

@@ -1,5 +1,5 @@
 -- The first was read, a turn comes, and the rest is left; what follows for all chains.
-use Rattle.std.proofs.Common.{◌≡◌, ◌⊎◌, inl, ℕ, Vec, ◌∷◌, ◌++◌, ◌+◌, ◌-◌, ◌<◌, ◌≤◌, List, length}
+use Rattle.std.proofs.Common.{◌≡◌, ◌⊎◌, inl, ℕ, Vec, ◌∷◌, ◌++◌, ◌+◌, ◌-◌, ◌≤◌, List, length}
 use Rattle.std.proofs.Common.{arith, subst, sym, ap, ◌∙◌, length-append}
 use Rattle.std.proofs.lemmas.List.Sorted.{length_permutation}
 use Rattle.std.specs.BTreeMap.{BTreeMap}
@@ -77,8 +77,8 @@ loop-unread-preserved g c =
     c.room_for-allowed.ensures.some c.room_for-allowed.ensures.within
     (subst (λ (m : ℕ). c.room_for-allowed.result ≤ m + first_room c.args.limit) same
     c.room_for-allowed.ensures.small)
-    (subst (λ (m : ℕ). (c.room_for-allowed.result ≡ c.loop-unread.room)
-    ⊎ (m < c.room_for-allowed.result)) same c.room_for-allowed.ensures.grows)
+    (subst (λ (m : ℕ). (c.room_for-allowed.result ≡ m + first_room c.args.limit)
+    ⊎ (c.room_for-allowed.result ≡ c.loop-unread.room)) same c.room_for-allowed.ensures.whole)
     c.in_ok-done.ensures)
 
 pub loop-unread-2-init : goal.loop-unread-2-init
