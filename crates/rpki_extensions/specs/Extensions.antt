@@ -88,7 +88,7 @@ abbrev pub other : Overclaim → Overclaim
 other Refuse = Trim
 other Trim = Refuse
 
--- the extensions a resource certificate may have (4.8; RFC 8360, section 4.2.2)
+-- the extensions known in a resource certificate (4.8; RFC 8360, section 4.2.2)
 abbrev pub certificate_extensions : List (List ℕ)
 certificate_extensions =
     subject_key_identifier
