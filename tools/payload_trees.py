@@ -832,7 +832,7 @@ def long_refusals(t, count):
 
 def long_names(t, count):
     """A manifest of so many files that are not there, below such a URI. It takes memory and time: the
-    URIs of all are held and compared before a file is looked for."""
+    names of all are held and compared before a file is looked for."""
     h = hostile(t, folder=LONG_FOLDER)
     list_more(t, h, count)
     t.says(A + C + B, (h.manifest, f"0.roa {GONE}", t.top.manifest))
