@@ -637,10 +637,14 @@ def addresses(family, items):
 def list_more(t, ca, count, is_last=False):
     """The manifest of a CA lists so many files that are not there, after its revocation list, or before
     it."""
+    own, more = [f"{ca.name}.crl"] * ca.lists_it, [f"{at}.roa" for at in range(count)]
+    list_names(t, ca, more + own if is_last else own + more)
+
+
+def list_names(t, ca, names):
+    """The manifest of a CA lists these names, each with the hash of the revocation list."""
     digest = hashlib.sha256(ca.published()[ca.crl]).digest()
-    own, more = [(f"{ca.name}.crl", digest)] * ca.lists_it, [(f"{at}.roa", digest) for at in range(count)]
-    names = more + own if is_last else own + more
-    listed = make.sequence(*(make.sequence(make.ia5(it), make.bits(digest)) for it, digest in names))
+    listed = make.sequence(*(make.sequence(make.ia5(it), make.bits(digest)) for it in names))
     times = make.generalized(SIGNED) + make.generalized(NEXT)
     content = make.sequence(make.integer(1), times, make.SHA256, listed)
     name = ca.manifest.rsplit("/", 1)[1]
@@ -856,6 +860,36 @@ def no_list(t, count):
     t.says(A + C + B, (h.manifest, "revocation list is not listed", t.top.manifest))
 
 
+def often_certified(t, count):
+    """A CA that so many others certify, each with a number of its own, and all that certify it."""
+    h = hostile(t, count)
+    x, above = t.ca("x", [PLACE], (), h), [h]
+    for number in numbers(count):
+        y = t.ca(f"y{number[0]}", [], [number], h, key=shared(0))
+        certify(t, y, x, make.Claim([], [number]), "x.cer")
+        above.append(y)
+    return x, above
+
+
+def named_twice(t, count):
+    """A manifest that lists one name twice, of 99,000 times as many octets as there are CAs that certify
+    its own. It takes memory, and writes much: the refusal of each place names the file."""
+    x, above = often_certified(t, count)
+    name = "t" * (99_000 * count) + ".roa"
+    list_names(t, x, [name, name])
+    t.says(A + C + B, *((x.manifest, f"{name} is listed twice", it.manifest) for it in above))
+
+
+def lost_list(t, count):
+    """The same of a revocation list with such a name, which is not there."""
+    x, above = often_certified(t, count)
+    name = "l" * (99_000 * count) + ".crl"
+    x.crl = f"{x.folder}{name}"
+    t.lose(x.crl)
+    list_names(t, x, [name])
+    t.says(A + C + B, *((x.manifest, f"{name} {UNREAD}", it.manifest) for it in above))
+
+
 def deep_folder(t, count):
     """So many files that are not good, below as many folders in one another as a name may have. It takes
     time: for each file the system is asked for each folder, and goes down to it from the first."""
@@ -894,6 +928,8 @@ HOSTILE = [
     ("a manifest of many files below a long URI", long_names, 4_000, 100, 60_000),
     ("a manifest of many files, and its list the last, below a long URI", last_list, 4_000, 100, 60_000),
     ("a manifest of many files without its list, below a long URI", no_list, 4_000, 100, 60_000),
+    ("a manifest that lists a long name twice, of a CA that is certified many times", named_twice, 10, 3, 100),
+    ("a revocation list with a long name, of a CA that is certified many times", lost_list, 10, 3, 100),
 ]
 
 
