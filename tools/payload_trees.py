@@ -410,11 +410,16 @@ def same_names(t):
 
 
 def kept_at_ta(t):
-    """The anchor at ta/NAME/FILE goes before that of the URI's own place."""
+    """The anchor at ta/NAME/FILE counts where there is none at the URI's own place."""
     t.files["ta/one/top.cer"] = t.top.certificate() + b"more"
-    t.put(t.top.uri, b"no anchor")
+    t.lose(t.top.uri)
     t.tals["two.tal"] = t.tals["one.tal"]
-    t.fails(OTHER_KEY, "two")
+    t.fails(MISSING, "two")
+
+
+def other_at_ta(t):
+    """Another file is at ta/NAME/FILE: that at the URI goes first."""
+    t.files["ta/one/top.cer"] = b"no anchor"
 
 
 def several(*octets_of, text=None):
@@ -467,8 +472,10 @@ def named(file, name):
     """The locator is in a file of this name. No anchor is taken from where ta/NAME would lead."""
     def change(t):
         t.tals, t.found = {file: t.tals["one.tal"]}, {name: A + C + B}
+        t.lose(t.top.uri)
         for path in ("top.cer", "ta/top.cer"):
-            t.files[path] = b"no anchor"
+            t.files[path] = t.top.certificate()
+        t.fails(MISSING, name)
     return f"a locator {file!r}", change
 
 
@@ -504,7 +511,7 @@ LOCATORS = [
     ("two anchors whose own points are refused", three_anchors),
     ("two locators of one anchor", one_twice),
     ("two locators of one name", same_names),
-    ("an anchor at ta/NAME/FILE", kept_at_ta),
+    ("an anchor at ta/NAME/FILE", kept_at_ta), ("another file at ta/NAME/FILE", other_at_ta),
     uris_of(64), uris_of(65, MANY_URIS),
     located("https://a/../x", "x"), located("https://../x", "../x"), located("https://a/..", "x"),
     located("https://a//x", "a/x"), located("https://a/", "x"), located("rsync://../x/y", "../x/y"),
@@ -728,6 +735,13 @@ def held(t, count):
     certify(t, h, t.c, t.c.claim, "c.cer", last="20280101000000Z")
 
 
+def host_of_anchors(t, _):
+    """A CA whose host is `ta`, with a certificate where that of the trust anchor may be kept."""
+    h = hostile(t, folder="rsync://ta/one/")
+    below(t, h)
+    h.add("top.cer", h.files["x.cer"])
+
+
 def siblings(t, count):
     """So many CAs before all others, each with a manifest of zeros."""
     refused = []
@@ -912,6 +926,7 @@ HOSTILE = [
     ("many children with one key, and a manifest of zeros", one_key_of_zeros, 300, 8),
     ("a certificate for the key of a victim", shadow, 1, 1),
     ("a certificate for the key of a victim, with its numbers", held, 300, 8),
+    ("a host that is called as the folder of trust anchors", host_of_anchors, 1, 1),
     ("siblings with manifests of zeros", siblings, 20, 9),
     ("ROAs below a long list", long_list, 200, 10),
     ("ROAs of no octets", empty_files, 10_000, 50),
