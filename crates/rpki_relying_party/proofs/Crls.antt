@@ -233,9 +233,11 @@ module _ (s : Setting) (ca : Validated) (folder : List ℕ) (signer : Certificat
       -- the copy has not the file
       pub lost : (stop : Stop) → IsOutcome {T = List ℕ} (ReadStarts s (list_cost uri) uri)
           (λ octets n. Has s (uri, hash) octets × (n ≡ found_cost (list_cost uri) (Ok octets)))
-          (λ cause n. IsLostFile s (uri, hash) cause × ReadCosts s (list_cost uri) uri n) old new (Err stop)
+          (λ cause n. IsLostFile s (uri, hash) cause × ReadCosts s (list_cost uri) uri n) old new
+          (Err stop)
           → IsLooked old new (Err stop)
-      lost stop h = outcome-stops {A = ReadStarts s (list_cost uri) uri} (ListStarts s folder signer manifest)
+      lost stop h = outcome-stops {A = ReadStarts s (list_cost uri) uri}
+          (ListStarts s folder signer manifest)
           (λ n c. ((uri, hash), file, c))
           {V = λ cause n. IsLostFile s (uri, hash) cause × ReadCosts s (list_cost uri) uri n}
           {W = λ cause n. WhyNoList s ca folder signer manifest cause
@@ -246,7 +248,8 @@ module _ (s : Setting) (ca : Validated) (folder : List ℕ) (signer : Certificat
           × ListCosts s folder signer manifest n) stop h
 
       module _ (octets : List ℕ)
-          (spends : Spends (λ n. Has s (uri, hash) octets × (n ≡ found_cost (list_cost uri) (Ok octets))) old new)
+          (spends : Spends (λ n. Has s (uri, hash) octets
+          × (n ≡ found_cost (list_cost uri) (Ok octets))) old new)
         where
           has : Has s (uri, hash) octets
           has = spends.1.0

@@ -20,8 +20,8 @@ abbrev pub FindsBelow : (List ℕ → Result (List ℕ) NoFile → Type 0) → L
 FindsBelow finds name found =
     (IsBelow name × finds name found) ⊎ ((¬ IsBelow name) × (found ≡ Err Missing))
 
--- What may be found for a URI of the locator with this name: the file at the host and the path of the
--- URI comes first, whatever it is, and where that is missing, the file `ta/NAME/LAST`.
+-- What may be found for a URI of the locator with this name: the file at the host and the path of
+-- the URI comes first, whatever it is, and where that is missing, the file `ta/NAME/LAST`.
 abbrev pub FindsAnchor : (List ℕ → Result (List ℕ) NoFile → Type 0) → List ℕ → List ℕ
     → Result (List ℕ) NoFile → Type 0
 FindsAnchor finds name uri found =

@@ -22,8 +22,8 @@ pub trait Folders {
     ghost use Rattle.rpki_relying_party.specs.declared.copy.NoFile.{NoFile};
 
     // What a read of a name below a folder may find: octets, or why there are none. Of a folder of
-    // the system, which may change at any time, any octets may be found that a file may have; one in
-    // memory finds one thing under each name.
+    // the system, which may change at any time, any octets may be found that a file may have; one
+    // in memory finds one thing under each name.
     ghost finds: { Self → List ℕ → List ℕ → Result (List ℕ) NoFile → Type 0 };
 
     /// What there is below the folder under this name, or that memory ran out. A file is read if it

@@ -184,7 +184,8 @@ pub(crate) fn find_manifest<R: Repository, C: Crypto>(
     room: &mut u64,
 ) -> Result<Manifest, Stop>
     ensures { IsOutcome
-        (ManifestStarts (setting R.finds C.digest_of C.is_signed pass.now) ca.now folder.now uri.now)
+        (ManifestStarts (setting R.finds C.digest_of C.is_signed pass.now) ca.now folder.now
+        uri.now)
         (λ m n. IsManifestAt (setting R.finds C.digest_of C.is_signed pass.now) ca.now folder.now
         uri.now m.signer.cert.certificate m.content
         × ReadCosts (setting R.finds C.digest_of C.is_signed pass.now) opening_cost uri.now n)

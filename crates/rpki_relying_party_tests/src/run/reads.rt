@@ -17,10 +17,10 @@ use std::cell::Cell;
 static ROWS: [(u64, [u32; 13]); 9] = [
     // there is room for each place at its first try
     (8_589_934_592, [1, 0, 0, 1, 1, 1, 1, 1, 1, 1, 1, 1, 1]),
-    // the point of the trust anchor costs 59,529, 304 of it for the 19 octets of the URI of its list;
-    // of what is left, tries of `a` take 2,295, the last of them with room to look for its manifest
-    // of 1,011 octets, and those of `b`, which has none, 2,167; so at the next try of `a` there is
-    // just as much room as its manifest costs, or one less
+    // the point of the trust anchor costs 59,529, of which 304 are for the 19 octets of the URI of
+    // its list; of what is left, tries of `a` take 2,295, the last of them with room to look for its
+    // manifest of 1,011 octets, and those of `b`, which has none, 2,167; so at the next try of `a`
+    // there is just as much room as its manifest costs, or one less
     (66_026, [1, 0, 0, 1, 1, 1, 1, 1, 1, 0, 1, 0, 0]),
     (66_025, [1, 0, 0, 1, 1, 1, 1, 1, 1, 0, 0, 0, 0]),
     // `x.roa` comes last in that point: 1,024, 16 for each of the 38 octets of its URI and of
