@@ -231,19 +231,22 @@ module _ (s : Setting) (ca : Validated) (folder : List ℕ) (signer : Certificat
       why (causes.Memory count) h = absurd h
 
       -- the copy has not the file
-      pub lost : (stop : Stop) → IsOutcome {T = List ℕ} (ReadStarts s (list_cost uri) uri)
-          (λ octets n. Has s (uri, hash) octets × (n ≡ found_cost (list_cost uri) (Ok octets)))
-          (λ cause n. IsLostFile s (uri, hash) cause × ReadCosts s (list_cost uri) uri n) old new
-          (Err stop)
+      pub lost : (stop : Stop) (price : ℕ) → price ≡ list_cost uri
+          → IsOutcome {T = List ℕ} (ReadStarts s price uri)
+          (λ octets n. Has s (uri, hash) octets × (n ≡ found_cost price (Ok octets)))
+          (λ cause n. IsLostFile s (uri, hash) cause × ReadCosts s price uri n) old new (Err stop)
           → IsLooked old new (Err stop)
-      lost stop h = outcome-stops {A = ReadStarts s (list_cost uri) uri}
+      lost stop price e h = outcome-stops {A = ReadStarts s price uri}
           (ListStarts s folder signer manifest)
-          (λ n c. ((uri, hash), file, c))
-          {V = λ cause n. IsLostFile s (uri, hash) cause × ReadCosts s (list_cost uri) uri n}
+          (λ n c. ((uri, hash), file, subst (λ (p : ℕ). ReadStarts s p uri n) e c))
+          {V = λ cause n. IsLostFile s (uri, hash) cause × ReadCosts s price uri n}
           {W = λ cause n. WhyNoList s ca folder signer manifest cause
           × ListCosts s folder signer manifest n}
-          (λ cause n w. (why cause (w.0), costs n (w.1))) old new
-          (λ octets n. Has s (uri, hash) octets × (n ≡ found_cost (list_cost uri) (Ok octets)))
+          (λ cause n w. (
+            why cause (w.0),
+            costs n (subst (λ (p : ℕ). ReadCosts s p uri n) e (w.1)),
+          )) old new
+          (λ octets n. Has s (uri, hash) octets × (n ≡ found_cost price (Ok octets)))
           (λ (list : Found) n. IsListAt s ca folder signer manifest list.uri list.crl.list
           × ListCosts s folder signer manifest n) stop h
 

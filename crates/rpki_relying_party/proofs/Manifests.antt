@@ -154,7 +154,7 @@ module _ (s : Setting) (ca : Validated) (folder uri : List ℕ) (old : ℕ) wher
           -- it lists a name twice
           module _ (twice : List ℕ) (r : IsFirstRepeated (uris_of folder checked.1.files) twice)
               (left : ℕ) where
-            cost : ℕ
+            abbrev cost : ℕ
             cost = spends.0 + naming_cost twice
 
             why : WhyNoManifest s ca folder uri (faults.Twice twice)

@@ -19,8 +19,8 @@ returns-in_err-octets g c =
     c.args.manifest.now.signer.cert.certificate c.args.manifest.now.content c.in-Some.uri.now
     c.in-Some.ensures
     c.in_ok-hash.field-0 c.in-Some-2.hash c.in-Some-2.is c.in_ok-hash.ensures
-    c.args.room.now c.read_listed.new.room _
-    (rw c.list_cost.ensures at c.in_err-octets.ensures))
+    c.args.room.now c.read_listed.new.room _ c.list_cost.result c.list_cost.ensures
+    c.in_err-octets.ensures)
 
 pub returns-in_err-crl : goal.returns-in_err-crl
 returns-in_err-crl g c =
