@@ -118,26 +118,26 @@ module _ (s : Setting) (ca : Validated) (folder uri : List ℕ) (old : ℕ) wher
             → IsFirstFault (manifest_checks s.now (checked.1)) fault
             → IsLooked new (Err (Refused (causes.Manifest fault)))
         outdated fault k = refuses (causes.Manifest fault) (elim (fault-of s.now (checked.1) fault k) [
-              | inl e ↦ lacks (faults.NotYet checked.1.this_update) e (
-                octets,
-                checked.0.cert.certificate,
-                checked.1,
-                f,
-                good,
-                first (faults.NotYet checked.1.this_update) e,
-              )
-              | inr e ↦ lacks (faults.Stale checked.1.next_update) e (
-                octets,
-                checked.0.cert.certificate,
-                checked.1,
-                f,
-                good,
-                first (faults.Stale checked.1.next_update) e,
-              )
-            ]) (elim (fault-of s.now (checked.1) fault k) [
-              | inl e ↦ ap (λ (x : ManifestFault). named_cost (causes.Manifest x)) e
-              | inr e ↦ ap (λ (x : ManifestFault). named_cost (causes.Manifest x)) e
-            ])
+          | inl e ↦ lacks (faults.NotYet checked.1.this_update) e (
+            octets,
+            checked.0.cert.certificate,
+            checked.1,
+            f,
+            good,
+            first (faults.NotYet checked.1.this_update) e,
+          )
+          | inr e ↦ lacks (faults.Stale checked.1.next_update) e (
+            octets,
+            checked.0.cert.certificate,
+            checked.1,
+            f,
+            good,
+            first (faults.Stale checked.1.next_update) e,
+          )
+        ]) (elim (fault-of s.now (checked.1) fault k) [
+          | inl e ↦ ap (λ (x : ManifestFault). named_cost (causes.Manifest x)) e
+          | inr e ↦ ap (λ (x : ManifestFault). named_cost (causes.Manifest x)) e
+        ])
           where
             lacks : (x : ManifestFault) → fault ≡ x → WhyNoManifest s ca folder uri x
                 → WhyNoManifest s ca folder uri fault
