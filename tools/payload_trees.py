@@ -410,11 +410,16 @@ def same_names(t):
 
 
 def kept_at_ta(t):
-    """The anchor at ta/NAME/FILE goes before that of the URI's own place."""
+    """The anchor at ta/NAME/FILE counts where there is none at the URI's own place."""
     t.files["ta/one/top.cer"] = t.top.certificate() + b"more"
-    t.put(t.top.uri, b"no anchor")
+    t.lose(t.top.uri)
     t.tals["two.tal"] = t.tals["one.tal"]
-    t.fails(OTHER_KEY, "two")
+    t.fails(MISSING, "two")
+
+
+def other_at_ta(t):
+    """Another file is at ta/NAME/FILE: that at the URI goes first."""
+    t.files["ta/one/top.cer"] = b"no anchor"
 
 
 def several(*octets_of, text=None):
@@ -467,8 +472,10 @@ def named(file, name):
     """The locator is in a file of this name. No anchor is taken from where ta/NAME would lead."""
     def change(t):
         t.tals, t.found = {file: t.tals["one.tal"]}, {name: A + C + B}
+        t.lose(t.top.uri)
         for path in ("top.cer", "ta/top.cer"):
-            t.files[path] = b"no anchor"
+            t.files[path] = t.top.certificate()
+        t.fails(MISSING, name)
     return f"a locator {file!r}", change
 
 
@@ -504,7 +511,7 @@ LOCATORS = [
     ("two anchors whose own points are refused", three_anchors),
     ("two locators of one anchor", one_twice),
     ("two locators of one name", same_names),
-    ("an anchor at ta/NAME/FILE", kept_at_ta),
+    ("an anchor at ta/NAME/FILE", kept_at_ta), ("another file at ta/NAME/FILE", other_at_ta),
     uris_of(64), uris_of(65, MANY_URIS),
     located("https://a/../x", "x"), located("https://../x", "../x"), located("https://a/..", "x"),
     located("https://a//x", "a/x"), located("https://a/", "x"), located("rsync://../x/y", "../x/y"),
@@ -637,10 +644,14 @@ def addresses(family, items):
 def list_more(t, ca, count, is_last=False):
     """The manifest of a CA lists so many files that are not there, after its revocation list, or before
     it."""
+    own, more = [f"{ca.name}.crl"] * ca.lists_it, [f"{at}.roa" for at in range(count)]
+    list_names(t, ca, more + own if is_last else own + more)
+
+
+def list_names(t, ca, names):
+    """The manifest of a CA lists these names, each with the hash of the revocation list."""
     digest = hashlib.sha256(ca.published()[ca.crl]).digest()
-    own, more = [(f"{ca.name}.crl", digest)] * ca.lists_it, [(f"{at}.roa", digest) for at in range(count)]
-    names = more + own if is_last else own + more
-    listed = make.sequence(*(make.sequence(make.ia5(it), make.bits(digest)) for it, digest in names))
+    listed = make.sequence(*(make.sequence(make.ia5(it), make.bits(digest)) for it in names))
     times = make.generalized(SIGNED) + make.generalized(NEXT)
     content = make.sequence(make.integer(1), times, make.SHA256, listed)
     name = ca.manifest.rsplit("/", 1)[1]
@@ -722,6 +733,13 @@ def held(t, count):
     h.claim = make.Claim([PLACE, "10.1.4.0/24"], numbers(count))
     t.top.files["h.cer"] = h.certificate()
     certify(t, h, t.c, t.c.claim, "c.cer", last="20280101000000Z")
+
+
+def host_of_anchors(t, _):
+    """A CA whose host is `ta`, with a certificate where that of the trust anchor may be kept."""
+    h = hostile(t, folder="rsync://ta/one/")
+    below(t, h)
+    h.add("top.cer", h.files["x.cer"])
 
 
 def siblings(t, count):
@@ -832,7 +850,7 @@ def long_refusals(t, count):
 
 def long_names(t, count):
     """A manifest of so many files that are not there, below such a URI. It takes memory and time: the
-    URIs of all are held and compared before a file is looked for."""
+    names of all are held and compared before a file is looked for."""
     h = hostile(t, folder=LONG_FOLDER)
     list_more(t, h, count)
     t.says(A + C + B, (h.manifest, f"0.roa {GONE}", t.top.manifest))
@@ -854,6 +872,36 @@ def no_list(t, count):
     t.lose(h.crl)
     list_more(t, h, count)
     t.says(A + C + B, (h.manifest, "revocation list is not listed", t.top.manifest))
+
+
+def often_certified(t, count):
+    """A CA that so many others certify, each with a number of its own, and all that certify it."""
+    h = hostile(t, count)
+    x, above = t.ca("x", [PLACE], (), h), [h]
+    for number in numbers(count):
+        y = t.ca(f"y{number[0]}", [], [number], h, key=shared(0))
+        certify(t, y, x, make.Claim([], [number]), "x.cer")
+        above.append(y)
+    return x, above
+
+
+def named_twice(t, count):
+    """A manifest that lists one name twice, of 99,000 times as many octets as there are CAs that certify
+    its own. It takes memory, and writes much: the refusal of each place names the file."""
+    x, above = often_certified(t, count)
+    name = "t" * (99_000 * count) + ".roa"
+    list_names(t, x, [name, name])
+    t.says(A + C + B, *((x.manifest, f"{name} is listed twice", it.manifest) for it in above))
+
+
+def lost_list(t, count):
+    """The same of a revocation list with such a name, which is not there."""
+    x, above = often_certified(t, count)
+    name = "l" * (99_000 * count) + ".crl"
+    x.crl = f"{x.folder}{name}"
+    t.lose(x.crl)
+    list_names(t, x, [name])
+    t.says(A + C + B, *((x.manifest, f"{name} {UNREAD}", it.manifest) for it in above))
 
 
 def deep_folder(t, count):
@@ -878,6 +926,7 @@ HOSTILE = [
     ("many children with one key, and a manifest of zeros", one_key_of_zeros, 300, 8),
     ("a certificate for the key of a victim", shadow, 1, 1),
     ("a certificate for the key of a victim, with its numbers", held, 300, 8),
+    ("a host that is called as the folder of trust anchors", host_of_anchors, 1, 1),
     ("siblings with manifests of zeros", siblings, 20, 9),
     ("ROAs below a long list", long_list, 200, 10),
     ("ROAs of no octets", empty_files, 10_000, 50),
@@ -894,6 +943,8 @@ HOSTILE = [
     ("a manifest of many files below a long URI", long_names, 4_000, 100, 60_000),
     ("a manifest of many files, and its list the last, below a long URI", last_list, 4_000, 100, 60_000),
     ("a manifest of many files without its list, below a long URI", no_list, 4_000, 100, 60_000),
+    ("a manifest that lists a long name twice, of a CA that is certified many times", named_twice, 10, 3, 100),
+    ("a revocation list with a long name, of a CA that is certified many times", lost_list, 10, 3, 100),
 ]
 
 

@@ -14,7 +14,8 @@ use Rattle.rpki_routes.specs.Roa.Checks.{roa_kind}
 use Rattle.rpki_relying_party.specs.Costs.{payload_cost, waiting_cost, CostsOf, HeldCosts}
 use Rattle.rpki_relying_party.specs.Costs.{JudgedCosts, FileCosts, FileStarts, FilesCost, FirstCost}
 use Rattle.rpki_relying_party.specs.Costs.{FilesLost, FilesStart, LostCosts, AfterList, ListedCosts}
-use Rattle.rpki_relying_party.specs.Costs.{ListedStarts, AfterManifest, PointCosts, PointStarts}
+use Rattle.rpki_relying_party.specs.Costs.{ListedStarts, NoManifestCosts, AfterManifest, PointCosts}
+use Rattle.rpki_relying_party.specs.Costs.{PointStarts}
 use Rattle.rpki_relying_party.specs.Costs.{OnPlace, PlaceCosts, PlaceExceeds}
 use Rattle.rpki_relying_party.specs.Kind.{kind_of}
 use Rattle.rpki_relying_party.specs.Place.{AreAlike}
@@ -167,14 +168,19 @@ module _ (s : Setting) (ca by : Validated) where
       h.7,
     )
 
+    none-to : (n : ℕ) → NoManifestCosts s ca folder under n → NoManifestCosts s to folder under n
+    none-to n h = (h.0, no-manifest-of-to s ca by folder under (h.0) (h.1), h.2)
+
     point-to : (n : ℕ) → PointCosts s ca folder under n → PointCosts s to folder under n
-    point-to n (inl h) =
-        inl ((h.0.0, no-manifest-of-to s ca by folder under (h.0.0) (h.0.1)), h.1)
+    point-to n (inl h) = inl (none-to n h)
     point-to n (inr h) = inr (after-manifest-to (ListedCosts s ca folder under)
         (ListedCosts s to folder under) listed-to n h)
 
     point-starts-to : (n : ℕ) → PointStarts s ca folder under n → PointStarts s to folder under n
-    point-starts-to n (inl h) = inl h
+    point-starts-to n (inl h) = inl (elim h [
+      | inl r ↦ inl r
+      | inr none ↦ inr (none-to n none)
+    ])
     point-starts-to n (inr h) = inr (after-manifest-to (ListedStarts s ca folder under)
         (ListedStarts s to folder under) listed-starts-to n h)
 

@@ -76,13 +76,12 @@ fetched-as P Q most holds (fetched.NoFile why) h = holds (Err why) h
 fetched-as P Q most holds fetched.Larger h = (h.0, holds (Ok (h.0)) (h.1), h.2)
 
 module _ (finds : List ℕ → Result (List ℕ) NoFile → Type 0) (name uri : List ℕ) (most : ℕ) where
-  -- the file of the trust anchor, whatever it is, unless there is none
-  pub anchor-there : (first : Fetched)
-      → IsFetched (FindsBelow finds (anchor_name name uri)) most first
+  -- the file at the path, whatever it is, unless there is none
+  pub path-there : (first : Fetched) → IsFetched (FindsBelow finds (path_of uri)) most first
       → (¬ (first ≡ fetched.NoFile Missing)) → IsFetched (FindsAnchor finds name uri) most first
-  anchor-there (fetched.File octets) h there = (inl (h.0, λ e. cc), h.1)
-  anchor-there (fetched.NoFile why) h there = inl (h, λ e. there cc)
-  anchor-there fetched.Larger h there = (h.0, inl (h.1, λ e. cc), h.2)
+  path-there (fetched.File octets) h there = (inl (h.0, λ e. cc), h.1)
+  path-there (fetched.NoFile why) h there = inl (h, λ e. there cc)
+  path-there fetched.Larger h there = (h.0, inl (h.1, λ e. cc), h.2)
 
   -- what a read came to
   module _ (r : Result Fetched AllocError) where
@@ -92,14 +91,13 @@ module _ (finds : List ℕ → Result (List ℕ) NoFile → Type 0) (name uri : 
     came-to P Q holds p =
         IfOk-weaker r (IsFetched P most) (IsFetched Q most) (fetched-as P Q most holds) p
 
-    pub anchor-missing : (first : Fetched)
-        → IsFetched (FindsBelow finds (anchor_name name uri)) most first
+    pub path-missing : (first : Fetched) → IsFetched (FindsBelow finds (path_of uri)) most first
         → first ≡ fetched.NoFile Missing
-        → IfOk r (IsFetched (FindsBelow finds (path_of uri)) most)
+        → IfOk r (IsFetched (FindsBelow finds (anchor_name name uri)) most)
         → IfOk r (IsFetched (FindsAnchor finds name uri) most)
-    anchor-missing first h e p =
-        came-to (FindsBelow finds (path_of uri)) (FindsAnchor finds name uri)
-        (λ x f. inr (subst (IsFetched (FindsBelow finds (anchor_name name uri)) most) e h, f)) p
+    path-missing first h e p =
+        came-to (FindsBelow finds (anchor_name name uri)) (FindsAnchor finds name uri)
+        (λ x f. inr (subst (IsFetched (FindsBelow finds (path_of uri)) most) e h, f)) p
 
     pub of-locator : (tal : Locator) → IsUriOf tal uri
         → IfOk r (IsFetched (FindsAnchor finds name uri) most)

@@ -22,7 +22,7 @@ use Rattle.rpki_files.specs.Manifest.{Manifest}
 use Rattle.rpki_files.specs.Manifest.Files.{File}
 use Rattle.rpki_files.specs.Manifest.Uris.{UriAndHash, uri_of, uris_of}
 use Rattle.rpki_relying_party.specs.Costs.{ReadCosts, ReadStarts, ListCosts, ListStarts}
-use Rattle.rpki_relying_party.specs.Costs.{found_cost, opening_cost}
+use Rattle.rpki_relying_party.specs.Costs.{found_cost, list_cost}
 use Rattle.rpki_relying_party.specs.Lacks.{HasBadList, IsLostFile, WhyNoList, list_checks}
 use Rattle.rpki_relying_party.specs.Outcome.{Spends, IsOutcome}
 use Rattle.rpki_relying_party.specs.Point.{Has, IsListAt, IsListFile}
@@ -216,7 +216,7 @@ module _ (s : Setting) (ca : Validated) (folder : List ℕ) (signer : Certificat
       file : IsListFile folder signer manifest (uri, hash)
       file = record { named = named; listed = listed }
 
-      costs : (n : ℕ) → ReadCosts s opening_cost uri n → ListCosts s folder signer manifest n
+      costs : (n : ℕ) → ReadCosts s (list_cost uri) uri n → ListCosts s folder signer manifest n
       costs n c = inr ((uri, hash), file, c)
 
       why : (cause : Cause) → IsLostFile s (uri, hash) cause
@@ -231,22 +231,28 @@ module _ (s : Setting) (ca : Validated) (folder : List ℕ) (signer : Certificat
       why (causes.Memory count) h = absurd h
 
       -- the copy has not the file
-      pub lost : (stop : Stop) → IsOutcome {T = List ℕ} (ReadStarts s opening_cost uri)
-          (λ octets n. Has s (uri, hash) octets × (n ≡ found_cost opening_cost (Ok octets)))
-          (λ cause n. IsLostFile s (uri, hash) cause × ReadCosts s opening_cost uri n) old new (Err stop)
+      pub lost : (stop : Stop) (price : ℕ) → price ≡ list_cost uri
+          → IsOutcome {T = List ℕ} (ReadStarts s price uri)
+          (λ octets n. Has s (uri, hash) octets × (n ≡ found_cost price (Ok octets)))
+          (λ cause n. IsLostFile s (uri, hash) cause × ReadCosts s price uri n) old new (Err stop)
           → IsLooked old new (Err stop)
-      lost stop h = outcome-stops {A = ReadStarts s opening_cost uri} (ListStarts s folder signer manifest)
-          (λ n c. ((uri, hash), file, c))
-          {V = λ cause n. IsLostFile s (uri, hash) cause × ReadCosts s opening_cost uri n}
+      lost stop price e h = outcome-stops {A = ReadStarts s price uri}
+          (ListStarts s folder signer manifest)
+          (λ n c. ((uri, hash), file, subst (λ (p : ℕ). ReadStarts s p uri n) e c))
+          {V = λ cause n. IsLostFile s (uri, hash) cause × ReadCosts s price uri n}
           {W = λ cause n. WhyNoList s ca folder signer manifest cause
           × ListCosts s folder signer manifest n}
-          (λ cause n w. (why cause (w.0), costs n (w.1))) old new
-          (λ octets n. Has s (uri, hash) octets × (n ≡ found_cost opening_cost (Ok octets)))
+          (λ cause n w. (
+            why cause (w.0),
+            costs n (subst (λ (p : ℕ). ReadCosts s p uri n) e (w.1)),
+          )) old new
+          (λ octets n. Has s (uri, hash) octets × (n ≡ found_cost price (Ok octets)))
           (λ (list : Found) n. IsListAt s ca folder signer manifest list.uri list.crl.list
           × ListCosts s folder signer manifest n) stop h
 
       module _ (octets : List ℕ)
-          (spends : Spends (λ n. Has s (uri, hash) octets × (n ≡ found_cost opening_cost (Ok octets))) old new)
+          (spends : Spends (λ n. Has s (uri, hash) octets
+          × (n ≡ found_cost (list_cost uri) (Ok octets))) old new)
         where
           has : Has s (uri, hash) octets
           has = spends.1.0

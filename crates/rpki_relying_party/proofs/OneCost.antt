@@ -14,18 +14,22 @@ use Rattle.rpki_routes.specs.Aspa.Checks.{aspa_kind}
 use Rattle.rpki_routes.specs.Roa.{Roa, addresses}
 use Rattle.rpki_routes.specs.Roa.Form.{RoaForm}
 use Rattle.rpki_routes.specs.Roa.Checks.{roa_kind}
-use Rattle.rpki_relying_party.specs.Costs.{opening_cost, listing_cost, found_cost, payload_cost}
-use Rattle.rpki_relying_party.specs.Costs.{waiting_cost, ReadCosts}
+use Rattle.rpki_relying_party.specs.Costs.{opening_cost, listing_cost, list_cost, named_cost}
+use Rattle.rpki_relying_party.specs.Costs.{found_cost, payload_cost, waiting_cost, ReadCosts}
 use Rattle.rpki_relying_party.specs.Costs.{ReadStarts, CostsOf, HeldCosts, JudgedCosts, FileCosts}
 use Rattle.rpki_relying_party.specs.Costs.{FileStarts, LostCosts}
 use Rattle.rpki_relying_party.specs.Costs.{FilesCost, FilesLost, FilesStart, ListCosts, ListStarts}
-use Rattle.rpki_relying_party.specs.Costs.{ListedCosts, ListedStarts, PointCosts, PointStarts}
-use Rattle.rpki_relying_party.specs.Costs.{OnPlace, PlaceCosts, PlaceExceeds}
+use Rattle.rpki_relying_party.specs.Costs.{ListedCosts, ListedStarts, NoManifestCosts}
+use Rattle.rpki_relying_party.specs.Costs.{ManifestStarts, PointCosts, PointStarts, OnPlace}
+use Rattle.rpki_relying_party.specs.Costs.{PlaceCosts, PlaceExceeds}
 use Rattle.rpki_relying_party.specs.Kind.{kind_of}
 use Rattle.rpki_relying_party.specs.Point.{AreOnce, IsListFile}
-use Rattle.rpki_relying_party.specs.Same.{FindsOne}
+use Rattle.rpki_relying_party.specs.Same.{FindsOne, shown}
 use Rattle.rpki_relying_party.specs.Setting.{Setting}
 use Rattle.rpki_relying_party.specs.Tells.{HasRoa, HasAspa, HasCa}
+use Rattle.rpki_relying_party.specs.declared.cause.Cause.{Cause}
+use Rattle.rpki_relying_party.specs.declared.cause.Cause.TheVariants as causes
+use Rattle.rpki_relying_party.specs.declared.cause.ManifestFault.TheVariants as manifests
 use Rattle.rpki_relying_party.specs.declared.copy.NoFile.{NoFile}
 use Rattle.rpki_relying_party.specs.declared.kind.ListedKind.{ListedKind}
 use Rattle.rpki_relying_party.specs.declared.kind.ListedKind.TheVariants as kinds
@@ -33,7 +37,8 @@ use Rattle.rpki_relying_party.specs.declared.place.Place.{Place}
 use Rattle.rpki_relying_party.proofs.OneChild.{one-ca}
 use Rattle.rpki_relying_party.proofs.OneObject.{one-content}
 use Rattle.rpki_relying_party.proofs.OnePoint.{has-one, lost-not-had, one-folder, one-uri}
-use Rattle.rpki_relying_party.proofs.OnePoint.{names-one, one-manifest, manifest-stays, one-list}
+use Rattle.rpki_relying_party.proofs.OnePoint.{names-one, one-why-manifest, one-manifest}
+use Rattle.rpki_relying_party.proofs.OnePoint.{manifest-stays, one-list}
 use Rattle.rpki_relying_party.proofs.OnePoint.{one-list-file, list-stays}
 use Rattle.rpki_relying_party.proofs.Splits.{cuts}
 
@@ -51,6 +56,25 @@ one-costs Is cost same m n (inl h) (inl g) =
 one-costs Is cost same m n (inl h) (inr g) = absurd (g.0 (h.0) (h.1))
 one-costs Is cost same m n (inr h) (inl g) = absurd (h.0 (g.0) (g.1))
 one-costs Is cost same m n (inr h) (inr g) = h.1 ∙ sym (g.1)
+
+-- a refusal takes as much as one that is shown alike
+shown-named : (cause : Cause) → named_cost (shown cause) ≡ named_cost cause
+shown-named (causes.Manifest (manifests.NoFile why)) = refl
+shown-named (causes.Manifest (manifests.Refused error)) = refl
+shown-named (causes.Manifest (manifests.NotYet time)) = refl
+shown-named (causes.Manifest (manifests.Stale time)) = refl
+shown-named (causes.Manifest (manifests.Twice uri)) = refl
+shown-named (causes.List fault) = refl
+shown-named (causes.File uri fault) = refl
+shown-named (causes.Object error) = refl
+shown-named causes.RoaCertificate = refl
+shown-named (causes.Certificate error) = refl
+shown-named (causes.Limit count) = refl
+shown-named (causes.Memory count) = refl
+
+one-named-cost : (a b : Cause) → shown a ≡ shown b → named_cost a ≡ named_cost b
+one-named-cost a b e =
+    sym (shown-named a) ∙ ap (λ (c : Cause). named_cost c) e ∙ shown-named b
 
 module _ (s : Setting) (one : FindsOne s) where
   -- ---- one read
@@ -254,9 +278,9 @@ module _ (s : Setting) (one : FindsOne s) where
     module _ (folder : List ℕ) (signer : Certificate) (manifest : Manifest)
         (once : AreOnce (uris_of folder manifest.files)) (m n : ℕ) where
       same-read : (f g : UriAndHash) → IsListFile folder signer manifest f
-          → IsListFile folder signer manifest g → ReadCosts s opening_cost (f.0) n
-          → ReadCosts s opening_cost (g.0) n
-      same-read f g h k r = subst (λ (x : UriAndHash). ReadCosts s opening_cost (x.0) n)
+          → IsListFile folder signer manifest g → ReadCosts s (list_cost (f.0)) (f.0) n
+          → ReadCosts s (list_cost (g.0)) (g.0) n
+      same-read f g h k r = subst (λ (x : UriAndHash). ReadCosts s (list_cost (x.0)) (x.0) n)
           (one-list-file s one ca folder signer manifest once f g h k) r
 
       one-list-cost : ListCosts s folder signer manifest m → ListCosts s folder signer manifest n
@@ -264,14 +288,14 @@ module _ (s : Setting) (one : FindsOne s) where
       one-list-cost (inl h) (inl g) = h.1 ∙ sym (g.1)
       one-list-cost (inl h) (inr g) = absurd (h.0 (g.0) (g.1))
       one-list-cost (inr h) (inl g) = absurd (g.0 (h.0) (h.1))
-      one-list-cost (inr h) (inr g) =
-          one-read opening_cost (h.0.0) m n (h.2) (same-read (g.0) (h.0) (g.1) (h.1) (g.2))
+      one-list-cost (inr h) (inr g) = one-read (list_cost (h.0.0)) (h.0.0) m n (h.2)
+          (same-read (g.0) (h.0) (g.1) (h.1) (g.2))
 
       list-starts : ListStarts s folder signer manifest m → ListCosts s folder signer manifest n
           → m ≤ n
       list-starts h (inl g) = absurd (g.0 (h.0) (h.1))
-      list-starts h (inr g) =
-          read-starts opening_cost (h.0.0) m n (h.2) (same-read (g.0) (h.0) (g.1) (h.1) (g.2))
+      list-starts h (inr g) = read-starts (list_cost (h.0.0)) (h.0.0) m n (h.2)
+          (same-read (g.0) (h.0) (g.1) (h.1) (g.2))
 
     module _ (folder under : List ℕ) (signer : Certificate) (manifest : Manifest)
         (once : AreOnce (uris_of folder manifest.files)) (m n : ℕ) where
@@ -325,12 +349,29 @@ module _ (s : Setting) (one : FindsOne s) where
     -- ---- the point
 
     module _ (folder uri : List ℕ) (m n : ℕ) where
+      one-none-cost : NoManifestCosts s ca folder uri m → NoManifestCosts s ca folder uri n
+          → m ≡ n
+      one-none-cost h g = omega (
+        arith,
+        h.2.2,
+        g.2.2,
+        one-read opening_cost uri (h.2.0) (g.2.0) (h.2.1) (g.2.1),
+        one-named-cost (h.0) (g.0)
+            (one-why-manifest s one ca folder uri (h.0) (g.0) (h.1) (g.1)),
+      )
+
+      manifest-starts : ManifestStarts s ca folder uri m → NoManifestCosts s ca folder uri n
+          → m ≤ n
+      manifest-starts (inl h) g =
+          omega (arith, g.2.2, read-starts opening_cost uri m (g.2.0) h (g.2.1))
+      manifest-starts (inr h) g = omega (arith, one-none-cost h g)
+
       one-point-cost : PointCosts s ca folder uri m → PointCosts s ca folder uri n → m ≡ n
-      one-point-cost (inl h) (inl g) = one-read opening_cost uri m n (h.1) (g.1)
+      one-point-cost (inl h) (inl g) = one-none-cost h g
       one-point-cost (inl h) (inr g) = absurd (manifest-stays s one ca folder uri (g.0) (g.1)
-          (g.4) (h.0.0) (h.0.1))
+          (g.4) (h.0) (h.1))
       one-point-cost (inr h) (inl g) = absurd (manifest-stays s one ca folder uri (h.0) (h.1)
-          (h.4) (g.0.0) (g.0.1))
+          (h.4) (g.0) (g.1))
       one-point-cost (inr h) (inr g) =
           let same = one-manifest s one ca folder uri (g.0) (h.0) (g.1) (h.1) (g.4) (h.4) in
           omega (
@@ -345,11 +386,14 @@ module _ (s : Setting) (one : FindsOne s) where
           )
 
       point-starts : PointStarts s ca folder uri m → PointCosts s ca folder uri n → m ≤ n
-      point-starts (inl h) (inl g) = read-starts opening_cost uri m n h (g.1)
-      point-starts (inl h) (inr g) =
-          omega (arith, g.7, read-starts opening_cost uri m (g.2) h (g.5))
+      point-starts (inl h) (inl g) = manifest-starts h g
+      point-starts (inl h) (inr g) = elim h [
+        | inl r ↦ omega (arith, g.7, read-starts opening_cost uri m (g.2) r (g.5))
+        | inr none ↦ absurd (manifest-stays s one ca folder uri (g.0) (g.1) (g.4) (none.0)
+            (none.1))
+      ]
       point-starts (inr h) (inl g) = absurd (manifest-stays s one ca folder uri (h.0) (h.1)
-          (h.4) (g.0.0) (g.0.1))
+          (h.4) (g.0) (g.1))
       point-starts (inr h) (inr g) =
           let same = one-manifest s one ca folder uri (g.0) (h.0) (g.1) (h.1) (g.4) (h.4) in
           omega (

@@ -263,7 +263,7 @@ module _ (s : Setting) (one : FindsOne s) where
       one-none uri a b (inr h) (inr g) = one-bad (h.0) a b (h.2)
           (subst (λ (o : List ℕ). IsBadBy o b) (found-one uri (g.0) (h.0) (g.1) (h.1)) (g.2))
 
-      one-why-manifest : (uri : List ℕ) (a b : Cause) → WhyNoManifestOf s ca folder uri a
+      pub one-why-manifest : (uri : List ℕ) (a b : Cause) → WhyNoManifestOf s ca folder uri a
           → WhyNoManifestOf s ca folder uri b → shown a ≡ shown b
       one-why-manifest uri (causes.Manifest a) (causes.Manifest b) h g =
           ap (λ (f : ManifestFault). causes.Manifest f)

@@ -9,7 +9,8 @@ use Rattle.rpki_certs.specs.Cert.{Certificate}
 use Rattle.rpki_certs.specs.Validate.{Validated}
 use Rattle.rpki_files.specs.Manifest.{Manifest}
 use Rattle.rpki_files.specs.Manifest.Uris.{UriAndHash, uris_of}
-use Rattle.rpki_relying_party.specs.Costs.{ReadCosts, ReadStarts, ListCosts, ListStarts, FilesCost}
+use Rattle.rpki_relying_party.specs.Costs.{ReadCosts, ListCosts, ListStarts, FilesCost}
+use Rattle.rpki_relying_party.specs.Costs.{ManifestStarts, RefusedCosts}
 use Rattle.rpki_relying_party.specs.Costs.{FilesLost, FilesStart, ListedCosts, ListedStarts}
 use Rattle.rpki_relying_party.specs.Costs.{PointCosts, PointStarts, PlaceCosts, PlaceExceeds}
 use Rattle.rpki_relying_party.specs.Costs.{opening_cost}
@@ -52,7 +53,8 @@ read-some s uri n (Err why, f, e) = omega (arith, e)
 -- and so does a point
 point-some : (s : Setting) (ca : Validated) (folder uri : List ℕ) (n : ℕ)
     → PointCosts s ca folder uri n → 0 < n
-point-some s ca folder uri n (inl h) = read-some s uri n (h.1)
+point-some s ca folder uri n (inl h) =
+    omega (arith, read-some s uri (h.2.0) (h.2.1), h.2.2)
 point-some s ca folder uri n (inr h) = omega (arith, read-some s uri (h.2) (h.5), h.7)
 
 module _ (s : Setting) (place : Place) (folder uri : List ℕ) where
@@ -175,19 +177,19 @@ module _ (s : Setting) (place : Place) (folder uri : List ℕ) where
 
   -- there is no manifest
   pub no-manifest : {T U : Type 0} (Yes : T → ℕ → Type 0) (Yes2 : U → ℕ → Type 0) (old new : ℕ)
-      (stop : Stop) → IsOutcome (ReadStarts s opening_cost uri) Yes
-      (λ cause n. WhyNoManifestOf s place.ca folder uri cause × ReadCosts s opening_cost uri n) old
+      (stop : Stop) → IsOutcome (ManifestStarts s place.ca folder uri) Yes
+      (λ cause n. WhyNoManifestOf s place.ca folder uri cause × RefusedCosts s uri cause n) old
       new (Err stop)
       → IsOutcome (PointStarts s place.ca folder uri) Yes2
       (λ cause n. WhyNoPoint s place.ca folder uri cause
       × PointCosts s place.ca folder uri n) old new (Err stop)
   no-manifest Yes Yes2 old new stop h =
-      outcome-stops {A = ReadStarts s opening_cost uri} (PointStarts s place.ca folder uri)
+      outcome-stops {A = ManifestStarts s place.ca folder uri} (PointStarts s place.ca folder uri)
       (λ n c. inl c)
-      {V = λ cause n. WhyNoManifestOf s place.ca folder uri cause × ReadCosts s opening_cost uri n}
+      {V = λ cause n. WhyNoManifestOf s place.ca folder uri cause × RefusedCosts s uri cause n}
       {W = λ cause n. WhyNoPoint s place.ca folder uri cause
       × PointCosts s place.ca folder uri n}
-      (λ cause n w. (inl (w.0), inl ((cause, w.0), w.1))) old new Yes Yes2 stop h
+      (λ cause n w. (inl (w.0), inl (cause, w.0, w.1))) old new Yes Yes2 stop h
 
   -- ---- the place
 

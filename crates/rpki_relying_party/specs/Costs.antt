@@ -16,6 +16,8 @@ use Rattle.rpki_relying_party.specs.Point.{NamesManifest}
 use Rattle.rpki_relying_party.specs.Setting.{Setting}
 use Rattle.rpki_relying_party.specs.Tells.{HasRoa, HasAspa, HasCa, NamesNoPoint}
 use Rattle.rpki_relying_party.specs.declared.cause.Cause.{Cause}
+use Rattle.rpki_relying_party.specs.declared.cause.Cause.TheVariants as causes
+use Rattle.rpki_relying_party.specs.declared.cause.ManifestFault.TheVariants as manifests
 use Rattle.rpki_relying_party.specs.declared.copy.NoFile.{NoFile}
 use Rattle.rpki_relying_party.specs.declared.kind.ListedKind.{ListedKind}
 use Rattle.rpki_relying_party.specs.declared.kind.ListedKind.TheVariants as kinds
@@ -36,6 +38,19 @@ blocks_of v = length v.sets.as_numbers + (length v.sets.v4 + length v.sets.v6)
 abbrev pub listing_cost : Validated → List ℕ → List ℕ → ℕ
 listing_cost ca under uri =
     opening_cost + blocks_of ca / 8 + 16 * (length uri + length under)
+
+-- what a refusal takes that names a file: 16 for each octet of its URI
+abbrev pub naming_cost : List ℕ → ℕ
+naming_cost uri = 16 * length uri
+
+-- to look for the revocation list of a manifest, which a refusal may name
+abbrev pub list_cost : List ℕ → ℕ
+list_cost uri = opening_cost + naming_cost uri
+
+-- what the refusal of a manifest takes: it may name a file that is listed twice
+abbrev pub named_cost : Cause → ℕ
+named_cost (causes.Manifest (manifests.Twice uri)) = naming_cost uri
+named_cost cause = 0
 
 -- what was found for a URI: this price for looking for it, and one for each octet
 abbrev pub found_cost : ℕ → Result (List ℕ) NoFile → ℕ
@@ -147,13 +162,13 @@ abbrev pub ListCosts : Setting → List ℕ → Certificate → Manifest → ℕ
 ListCosts s folder signer manifest n =
     (((file : UriAndHash) → ¬ IsListFile folder signer manifest file) × (n ≡ 0))
     ⊎ ((file : UriAndHash) × IsListFile folder signer manifest file
-    × ReadCosts s opening_cost (file.0) n)
+    × ReadCosts s (list_cost (file.0)) (file.0) n)
 
 -- What is spent on some first steps with the revocation list of a manifest.
 abbrev pub ListStarts : Setting → List ℕ → Certificate → Manifest → ℕ → Type 0
 ListStarts s folder signer manifest n =
     (file : UriAndHash) × IsListFile folder signer manifest file
-    × ReadStarts s opening_cost (file.0) n
+    × ReadStarts s (list_cost (file.0)) (file.0) n
 
 -- There is a revocation list, and so much is spent on it, and on the files after it.
 abbrev pub AfterList : Setting → Validated → List ℕ → Certificate → Manifest
@@ -187,16 +202,30 @@ AfterManifest s ca folder uri Listed n =
     × IsManifestAt s ca folder uri signer manifest × ReadCosts s opening_cost uri a
     × Listed signer manifest b × (n ≡ a + b)
 
+-- What is spent on a manifest that is refused for this: on reading it, and on the refusal.
+abbrev pub RefusedCosts : Setting → List ℕ → Cause → ℕ → Type 0
+RefusedCosts s uri cause n =
+    (m : ℕ) × ReadCosts s opening_cost uri m × (n ≡ m + named_cost cause)
+
+-- What is spent on the manifest with this URI, where it refuses the point in this folder.
+abbrev pub NoManifestCosts : Setting → Validated → List ℕ → List ℕ → ℕ → Type 0
+NoManifestCosts s ca folder uri n =
+    (cause : Cause) × WhyNoManifestOf s ca folder uri cause × RefusedCosts s uri cause n
+
+-- What is spent on some first steps with the manifest, or on all, where it refuses the point.
+abbrev pub ManifestStarts : Setting → Validated → List ℕ → List ℕ → ℕ → Type 0
+ManifestStarts s ca folder uri n =
+    ReadStarts s opening_cost uri n ⊎ NoManifestCosts s ca folder uri n
+
 -- What is spent on the point in this folder, whose manifest has this URI: on the manifest, and
 -- where it is good and current, after it.
 abbrev pub PointCosts : Setting → Validated → List ℕ → List ℕ → ℕ → Type 0
-PointCosts s ca folder uri n =
-    (((cause : Cause) × WhyNoManifestOf s ca folder uri cause) × ReadCosts s opening_cost uri n)
+PointCosts s ca folder uri n = NoManifestCosts s ca folder uri n
     ⊎ AfterManifest s ca folder uri (ListedCosts s ca folder uri) n
 
 -- What is spent on some first steps with the point in this folder, whose manifest has this URI.
 abbrev pub PointStarts : Setting → Validated → List ℕ → List ℕ → ℕ → Type 0
-PointStarts s ca folder uri n = ReadStarts s opening_cost uri n
+PointStarts s ca folder uri n = ManifestStarts s ca folder uri n
     ⊎ AfterManifest s ca folder uri (ListedStarts s ca folder uri) n
 
 -- What is spent on a place: one, where its certificate names no point, and else on its point.

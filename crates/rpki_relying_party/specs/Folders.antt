@@ -20,14 +20,14 @@ abbrev pub FindsBelow : (List ℕ → Result (List ℕ) NoFile → Type 0) → L
 FindsBelow finds name found =
     (IsBelow name × finds name found) ⊎ ((¬ IsBelow name) × (found ≡ Err Missing))
 
--- What may be found for a URI of the locator with this name: the file `ta/NAME/LAST` comes first,
--- whatever it is, and where that is missing, the file at the host and the path of the URI.
+-- What may be found for a URI of the locator with this name: the file at the host and the path of
+-- the URI comes first, whatever it is, and where that is missing, the file `ta/NAME/LAST`.
 abbrev pub FindsAnchor : (List ℕ → Result (List ℕ) NoFile → Type 0) → List ℕ → List ℕ
     → Result (List ℕ) NoFile → Type 0
 FindsAnchor finds name uri found =
-    (FindsBelow finds (anchor_name name uri) found × (¬ (found ≡ Err Missing)))
-    ⊎ (FindsBelow finds (anchor_name name uri) (Err Missing)
-    × FindsBelow finds (path_of uri) found)
+    (FindsBelow finds (path_of uri) found × (¬ (found ≡ Err Missing)))
+    ⊎ (FindsBelow finds (path_of uri) (Err Missing)
+    × FindsBelow finds (anchor_name name uri) found)
 
 -- this is the text of a URI of the locator
 abbrev pub IsUriOf : Locator → List ℕ → Type 0

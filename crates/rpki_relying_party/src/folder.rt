@@ -22,8 +22,8 @@ pub trait Folders {
     ghost use Rattle.rpki_relying_party.specs.declared.copy.NoFile.{NoFile};
 
     // What a read of a name below a folder may find: octets, or why there are none. Of a folder of
-    // the system, which may change at any time, any octets may be found that a file may have; one in
-    // memory finds one thing under each name.
+    // the system, which may change at any time, any octets may be found that a file may have; one
+    // in memory finds one thing under each name.
     ghost finds: { Self → List ℕ → List ℕ → Result (List ℕ) NoFile → Type 0 };
 
     /// What there is below the folder under this name, or that memory ran out. A file is read if it
@@ -40,8 +40,9 @@ pub trait Folders {
 }
 
 /// A folder as a copy of the repositories, for a validation run under a locator. The file of a URI
-/// is that at its host and its path; for a URI of the locator, the file `ta/NAME/LAST` comes before
-/// it, where NAME is the name of the locator, and LAST what stands after the last slash of the URI.
+/// is that at its host and its path; for a URI of the locator, where that is missing, the file
+/// `ta/NAME/LAST`, where NAME is the name of the locator, and LAST what stands after the last slash
+/// of the URI. It comes second, since `ta` may be the name of a host too.
 #[derive(Drop)]
 pub struct FolderCopy<'a, F> {
     /// The folders among which it is.
@@ -107,10 +108,10 @@ impl<F: Folders> FolderCopy<'_, F> {
         ensures { IfOk result (IsFetched (FindsAnchor
             (F.finds self.now.folders.now self.now.folder.now) self.now.name.now uri.now) most) }
     {
-        let found = self.read_anchor(alloc, uri, most)?;
+        let found = self.read_path(alloc, uri, most)?;
         if is_missing(&found) {
             drop(found);
-            self.read_path(alloc, uri, most)
+            self.read_anchor(alloc, uri, most)
         } else {
             Ok(found)
         }

@@ -22,7 +22,7 @@ use crate::cause::{Cause, ListFault, Stop};
 use crate::copy::Repository;
 use crate::manifest::Manifest;
 use crate::pass::Pass;
-use crate::reader::{OPENING, read_listed};
+use crate::reader::{list_cost, read_listed};
 use crate::revoked::SortedCrl;
 use bytes::Bytes;
 use rpki_basics::{Crypto, DigestAlgorithm, Rsync, Time};
@@ -201,7 +201,7 @@ pub(crate) fn find_crl<R: Repository, C: Crypto>(
     let Some(hash) = find_listed(alloc, &manifest.content, folder, uri)? else {
         return Err(Stop::Refused(Cause::List(ListFault::Unlisted)));
     };
-    let octets = read_listed(alloc, pass, uri, &hash, OPENING, room)?;
+    let octets = read_listed(alloc, pass, uri, &hash, list_cost(uri), room)?;
     let crl = list_in(alloc, octets)?;
     if let Err(fault) = check_list(&crl, ca, &manifest.signer, pass.crypto, pass.moment) {
         drop(crl);

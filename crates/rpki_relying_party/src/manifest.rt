@@ -1,6 +1,6 @@
 //! The manifest of a publication point.
 
-ghost use Rattle.std.specs.Prelude.{◌≡◌, ◌⊎◌, IfOk, MatchOption, Ok, Result};
+ghost use Rattle.std.specs.Prelude.{◌≡◌, ◌⊎◌, ◌+◌, ◌<◌, IfOk, MatchOption, Ok, Result};
 ghost use Rattle.std.specs.Fn.{FnOnceTakesAt, FnOnceReturnsAt};
 ghost use Rattle.rpki_der.specs.declared.mode.Mode.TheVariants.{Der};
 ghost use Rattle.rpki_faults.specs.Checks.{AnswersFirstFault};
@@ -12,7 +12,8 @@ ghost use Rattle.rpki_files.specs.Manifest.Uris.{uris_of};
 ghost use Rattle.rpki_files.specs.Name.{IsFileName};
 ghost use Rattle.rpki_signed.specs.Check.{Checks};
 ghost use Rattle.rpki_signed.specs.Exact.{IsExact};
-ghost use Rattle.rpki_relying_party.specs.Costs.{ReadCosts, ReadStarts, opening_cost};
+ghost use Rattle.rpki_relying_party.specs.Costs.{ManifestStarts, ReadCosts, RefusedCosts};
+ghost use Rattle.rpki_relying_party.specs.Costs.{naming_cost, opening_cost};
 ghost use Rattle.rpki_relying_party.specs.Lacks.{IsFirstRepeated, WhyNoManifestOf, manifest_checks};
 ghost use Rattle.rpki_relying_party.specs.Memory.{IsCheckMemory};
 ghost use Rattle.rpki_relying_party.specs.Outcome.{IsOutcome};
@@ -26,7 +27,7 @@ use crate::cause::{Cause, ManifestFault, Stop};
 use crate::copy::Repository;
 use crate::memory::is_check_memory;
 use crate::pass::Pass;
-use crate::reader::{OPENING, read_file};
+use crate::reader::{OPENING, naming_cost, read_file, spend};
 use bytes::Bytes;
 use rpki_basics::uri::Error;
 use rpki_basics::{Crypto, ManifestRule, Rsync, Time};
@@ -158,6 +159,19 @@ fn refused_manifest(error: CheckError) -> Stop
     Stop::Refused(Cause::Manifest(ManifestFault::Refused(error)))
 }
 
+// That a manifest is refused which lists this file twice, or that there is too little room for it.
+fn refused_twice(twice: Rsync, room: &mut u64) -> Stop
+    ensures { ((room.new + naming_cost twice ≡ room.old)
+        × (result ≡ stops.Refused (causes.Manifest (faults.Twice twice))))
+        ⊎ ((result ≡ stops.Room) × (room.old < naming_cost twice) × (room.new ≡ room.old)) }
+{
+    if let Err(stop) = spend(room, naming_cost(&twice)) {
+        drop(twice);
+        return stop;
+    }
+    Stop::Refused(Cause::Manifest(ManifestFault::Twice(twice)))
+}
+
 /// The manifest that the copy has of a CA for this URI, where it is good and current and lists no
 /// name twice (RFC 9286, sections 6.2 and 6.3). Whether its certificate was revoked is not looked
 /// at.
@@ -170,13 +184,14 @@ pub(crate) fn find_manifest<R: Repository, C: Crypto>(
     room: &mut u64,
 ) -> Result<Manifest, Stop>
     ensures { IsOutcome
-        (ReadStarts (setting R.finds C.digest_of C.is_signed pass.now) opening_cost uri.now)
+        (ManifestStarts (setting R.finds C.digest_of C.is_signed pass.now) ca.now folder.now
+        uri.now)
         (λ m n. IsManifestAt (setting R.finds C.digest_of C.is_signed pass.now) ca.now folder.now
         uri.now m.signer.cert.certificate m.content
         × ReadCosts (setting R.finds C.digest_of C.is_signed pass.now) opening_cost uri.now n)
         (λ cause n. WhyNoManifestOf (setting R.finds C.digest_of C.is_signed pass.now) ca.now
         folder.now uri.now cause
-        × ReadCosts (setting R.finds C.digest_of C.is_signed pass.now) opening_cost uri.now n)
+        × RefusedCosts (setting R.finds C.digest_of C.is_signed pass.now) uri.now cause n)
         room.old room.new result }
 {
     let octets = match read_file(alloc, pass, uri, OPENING, room)? {
@@ -201,7 +216,7 @@ pub(crate) fn find_manifest<R: Repository, C: Crypto>(
         Ok(Some(twice)) => {
             drop(signer);
             drop(content);
-            Err(Stop::Refused(Cause::Manifest(ManifestFault::Twice(twice))))
+            Err(refused_twice(twice, room))
         }
         Ok(None) => Ok(Manifest { signer, content }),
     }

@@ -1,7 +1,8 @@
 //! The room in which a publication point is read.
 
-ghost use Rattle.std.specs.Prelude.{◌≡◌, ◌+◌, ◌<◌, MatchResult, Ok};
-ghost use Rattle.rpki_relying_party.specs.Costs.{ReadCosts, ReadStarts, found_cost, listing_cost};
+ghost use Rattle.std.specs.Prelude.{◌≡◌, ◌+◌, ◌*◌, ◌^◌, ◌<◌, MatchResult, Ok};
+ghost use Rattle.rpki_relying_party.specs.Costs.{ReadCosts, ReadStarts, found_cost, list_cost};
+ghost use Rattle.rpki_relying_party.specs.Costs.{listing_cost, naming_cost};
 ghost use Rattle.rpki_relying_party.specs.Lacks.{IsLostFile};
 ghost use Rattle.rpki_relying_party.specs.Outcome.{IsOutcome};
 ghost use Rattle.rpki_relying_party.specs.Passes.{setting};
@@ -20,6 +21,21 @@ use std::alloc::Global;
 
 /// What it costs to look for a file: it is opened, and may have two signatures.
 pub(crate) const OPENING: u128 = 1024;
+
+/// What a refusal takes that names the file with this URI, which it holds.
+pub(crate) fn naming_cost(uri: &Rsync) -> u128
+    ensures costs { result ≡ naming_cost uri.now }
+    ensures fits { result < 16 * 2 ^ 64 }
+{
+    16 * (uri.as_slice().len() as u128)
+}
+
+/// What it costs to look for the revocation list of a manifest.
+pub(crate) fn list_cost(uri: &Rsync) -> u128
+    ensures { result ≡ list_cost uri.now }
+{
+    OPENING + naming_cost(uri)
+}
 
 /// What it costs to look for a file that a CA with this manifest lists.
 pub(crate) fn listing_cost(ca: &ResourceCert, manifest: &Rsync, uri: &Rsync) -> u128

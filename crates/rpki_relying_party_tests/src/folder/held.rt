@@ -8,19 +8,22 @@ use rpki_testing::Fail;
 use std::alloc::{AllocError, Global};
 
 /// The locator of a trust anchor.
-const LOCATOR: &[u8] =
-    b"rsync://h/ta/t.cer\nhttps://h/ta/t.cer\n\nMBowDQYJKoZIhvcNAQEBBQADCQAAAAAAAAAAAQ==\n";
+const LOCATOR: &[u8] = b"\
+    rsync://h/ta/t.cer\nhttps://h/ta/s.cer\nrsync://h/ta/link.cer\n\n\
+    MBowDQYJKoZIhvcNAQEBBQADCQAAAAAAAAAAAQ==\n";
 
 /// The names of files, and what they hold or why they are not read.
-static FILES: [(&str, Result<&[u8], NoFile>); 9] = [
+static FILES: [(&str, Result<&[u8], NoFile>); 11] = [
     ("host/module/x.roa", Ok(b"file")),
     ("host/module/big.roa", Err(NoFile::TooLarge)),
     ("h/ta/t.cer", Ok(b"published")),
-    ("ta/name/t.cer", Ok(b"anchor")),
-    ("ta/link/t.cer", Err(NoFile::NotRegular)),
+    ("h/ta/link.cer", Err(NoFile::NotRegular)),
+    ("ta/name/t.cer", Ok(b"taken")),
+    ("ta/name/s.cer", Ok(b"anchor")),
     ("../module/x", Ok(b"above")),
     ("host/../x", Ok(b"above")),
-    ("ta/../t.cer", Ok(b"above")),
+    ("ta/link/link.cer", Ok(b"taken")),
+    ("ta/../s.cer", Ok(b"above")),
     ("", Ok(b"nameless")),
 ];
 
@@ -30,14 +33,14 @@ static HELD: [(&str, &str, Result<&[u8], NoFile>); 15] = [
     ("name", "https://host/module/x.roa", Ok(b"file")),
     ("name", "rsync://host/module/y.roa", Err(NoFile::Missing)),
     ("name", "rsync://host/module/big.roa", Err(NoFile::TooLarge)),
-    // the file of the trust anchor comes first, whatever it is
-    ("name", "rsync://h/ta/t.cer", Ok(b"anchor")),
-    ("name", "https://h/ta/t.cer", Ok(b"anchor")),
-    ("link", "rsync://h/ta/t.cer", Err(NoFile::NotRegular)),
-    ("other", "rsync://h/ta/t.cer", Ok(b"published")),
-    ("name", "https://h/t.cer", Err(NoFile::Missing)),
+    // what is at the URI comes first, whatever it is
+    ("name", "rsync://h/ta/t.cer", Ok(b"published")),
+    ("link", "rsync://h/ta/link.cer", Err(NoFile::NotRegular)),
+    ("name", "https://h/ta/s.cer", Ok(b"anchor")),
+    ("other", "https://h/ta/s.cer", Err(NoFile::Missing)),
+    ("name", "rsync://h/ta/s.cer", Err(NoFile::Missing)),
     // no name leads out of the folder
-    ("..", "https://h/ta/t.cer", Ok(b"published")),
+    ("..", "https://h/ta/s.cer", Err(NoFile::Missing)),
     ("name", "rsync://../module/x", Err(NoFile::Missing)),
     ("name", "https://host/../x", Err(NoFile::Missing)),
     ("name", "rsync://host/module/", Err(NoFile::Missing)),

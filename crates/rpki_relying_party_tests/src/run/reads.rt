@@ -17,18 +17,19 @@ use std::cell::Cell;
 static ROWS: [(u64, [u32; 13]); 9] = [
     // there is room for each place at its first try
     (8_589_934_592, [1, 0, 0, 1, 1, 1, 1, 1, 1, 1, 1, 1, 1]),
-    // the point of the trust anchor costs 59,225; of what is left, tries of `a` and `b` take 2,040
-    // each, the last of them with room to look for a manifest, and that of `a` has 1,011 octets; so
-    // at its next try there is just as much room as its manifest costs, or one less
-    (65_340, [1, 0, 0, 1, 1, 1, 1, 1, 1, 0, 1, 0, 0]),
-    (65_339, [1, 0, 0, 1, 1, 1, 1, 1, 1, 0, 0, 0, 0]),
+    // the point of the trust anchor costs 59,529, of which 304 are for the 19 octets of the URI of
+    // its list; of what is left, tries of `a` take 2,295, the last of them with room to look for its
+    // manifest of 1,011 octets, and those of `b`, which has none, 2,167; so at the next try of `a`
+    // there is just as much room as its manifest costs, or one less
+    (66_026, [1, 0, 0, 1, 1, 1, 1, 1, 1, 0, 1, 0, 0]),
+    (66_025, [1, 0, 0, 1, 1, 1, 1, 1, 1, 0, 0, 0, 0]),
     // `x.roa` comes last in that point: 1,024, 16 for each of the 38 octets of its URI and of
     // the manifest's, and its 4 octets
-    (59_225, [1, 0, 0, 1, 1, 1, 1, 1, 1, 0, 0, 0, 0]),
-    (59_224, [1, 0, 0, 1, 1, 1, 1, 1, 0, 0, 0, 0, 0]),
+    (59_529, [1, 0, 0, 1, 1, 1, 1, 1, 1, 0, 0, 0, 0]),
+    (59_528, [1, 0, 0, 1, 1, 1, 1, 1, 0, 0, 0, 0, 0]),
     // and 2,048 before it, for the address of `t.roa`, once its 820 octets are read
-    (55_541, [1, 0, 0, 1, 1, 1, 1, 1, 0, 0, 0, 0, 0]),
-    (55_540, [1, 0, 0, 1, 1, 1, 1, 0, 0, 0, 0, 0, 0]),
+    (55_845, [1, 0, 0, 1, 1, 1, 1, 1, 0, 0, 0, 0, 0]),
+    (55_844, [1, 0, 0, 1, 1, 1, 1, 0, 0, 0, 0, 0, 0]),
     // the manifest of the trust anchor costs 2,126
     (2_126, [1, 0, 0, 0, 1, 0, 0, 0, 0, 0, 0, 0, 0]),
     (2_125, [1, 0, 0, 0, 0, 0, 0, 0, 0, 0, 0, 0, 0]),

@@ -18,11 +18,11 @@ use rpki_testing::Fail;
 use std::alloc::Global;
 
 /// The files of the tree. The certificate of the trust anchor is where `rpki-client` keeps it, and
-/// what stands at its URI is none.
+/// nothing stands at its URI.
 pub static FILES: [(&str, Result<&[u8], NoFile>); 13] = [
     ("ta/one/t.cer", Ok(ANCHOR)),
     ("ta/large/t.cer", Err(NoFile::TooLarge)),
-    ("h/ta/t.cer", Ok(b"none")),
+    ("ta/two/t.cer", Ok(b"none")),
     ("h/m/t/t.crl", Ok(ANCHOR_LIST)),
     ("h/m/t/t.mft", Ok(ANCHOR_MANIFEST)),
     ("h/m/t/a.cer", Ok(CA)),

@@ -19,7 +19,8 @@ returns-in_err-octets g c =
     c.args.manifest.now.signer.cert.certificate c.args.manifest.now.content c.in-Some.uri.now
     c.in-Some.ensures
     c.in_ok-hash.field-0 c.in-Some-2.hash c.in-Some-2.is c.in_ok-hash.ensures
-    c.args.room.now c.read_listed.new.room _ c.in_err-octets.ensures)
+    c.args.room.now c.read_listed.new.room _ c.list_cost.result c.list_cost.ensures
+    c.in_err-octets.ensures)
 
 pub returns-in_err-crl : goal.returns-in_err-crl
 returns-in_err-crl g c =
@@ -30,7 +31,8 @@ returns-in_err-crl g c =
     c.args.manifest.now.signer.cert.certificate c.args.manifest.now.content c.in-Some.uri.now
     c.in-Some.ensures
     c.in_ok-hash.field-0 c.in-Some-2.hash c.in-Some-2.is c.in_ok-hash.ensures
-    c.args.room.now c.read_listed.new.room c.in_ok-octets.octets c.in_ok-octets.ensures _
+    c.args.room.now c.read_listed.new.room c.in_ok-octets.octets
+    (rw c.list_cost.ensures at c.in_ok-octets.ensures) _
     c.in_err-crl.ensures)
 
 pub returns-in-Err : goal.returns-in-Err
@@ -40,7 +42,8 @@ returns-in-Err g c =
     c.args.manifest.now.signer.cert.certificate c.args.manifest.now.content c.in-Some.uri.now
     c.in-Some.ensures
     c.in_ok-hash.field-0 c.in-Some-2.hash c.in-Some-2.is c.in_ok-hash.ensures
-    c.args.room.now c.read_listed.new.room c.in_ok-octets.octets c.in_ok-octets.ensures
+    c.args.room.now c.read_listed.new.room c.in_ok-octets.octets
+    (rw c.list_cost.ensures at c.in_ok-octets.ensures)
     c.in_ok-crl.crl (c.in_ok-crl.ensures.0) (c.in_ok-crl.ensures.1) c.in-Err.fault
     c.in-Err.ensures
 
@@ -51,7 +54,8 @@ returns g c =
     c.args.manifest.now.signer.cert.certificate c.args.manifest.now.content c.in-Some.uri.now
     c.in-Some.ensures
     c.in_ok-hash.field-0 c.in-Some-2.hash c.in-Some-2.is c.in_ok-hash.ensures
-    c.args.room.now c.read_listed.new.room c.in_ok-octets.octets c.in_ok-octets.ensures
+    c.args.room.now c.read_listed.new.room c.in_ok-octets.octets
+    (rw c.list_cost.ensures at c.in_ok-octets.ensures)
     c.in_ok-crl.crl (c.in_ok-crl.ensures.0) (c.in_ok-crl.ensures.1)
     c.in_default-check_list.ensures c.in_ok-list.list c.in_ok-list.ensures.uri
     c.in_ok-list.ensures.crl

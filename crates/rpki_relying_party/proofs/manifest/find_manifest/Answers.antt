@@ -17,6 +17,7 @@ returns-in-Ok-Some g c =
     c.read_file.new.room _ c.in_ok-octets.ensures c.in-Ok.octets c.in-Ok.is
     c.in-Ok-manifest_in.checked c.in-Ok-manifest_in.ensures.exact
     c.in_default.ensures c.in-Ok-Some.twice (rw c.in-Ok-Some.field-0-is at c.in-Ok-Some.ensures)
+    c.refused_twice.new.room c.refused_twice.result c.refused_twice.ensures
 
 pub returns-in-Ok-None : goal.returns-in-Ok-None
 returns-in-Ok-None g c =
