@@ -1,6 +1,6 @@
 -- Octets that may hold the certificate of a CA: it is one with its numbers, or it is refused by one
 -- fault.
-use Rattle.std.proofs.Common.{◌≡◌, ◌⊎◌, inl, inr, ℕ, List, Err, refl, sym, subst, ap, ◌∙◌}
+use Rattle.std.proofs.Common.{◌≡◌, ◌⊎◌, inl, inr, ℕ, List, Err, sym, subst, ap, ◌∙◌}
 use Rattle.rpki_der.specs.declared.mode.Mode.TheVariants.{Der}
 use Rattle.rpki_crls.specs.Crl.{RevocationList}
 use Rattle.rpki_resources.specs.declared.block.Block.{Block}

@@ -28,8 +28,6 @@ use Rattle.rpki_relying_party.specs.Same.{FindsOne}
 use Rattle.rpki_relying_party.specs.Setting.{Setting}
 use Rattle.rpki_relying_party.specs.Tells.{HasRoa, HasAspa, HasCa}
 use Rattle.rpki_relying_party.specs.declared.cause.Cause.{Cause}
-use Rattle.rpki_relying_party.specs.declared.cause.Cause.TheVariants as causes
-use Rattle.rpki_relying_party.specs.declared.cause.ManifestFault.TheVariants as manifests
 use Rattle.rpki_relying_party.specs.declared.copy.NoFile.{NoFile}
 use Rattle.rpki_relying_party.specs.declared.kind.ListedKind.{ListedKind}
 use Rattle.rpki_relying_party.specs.declared.kind.ListedKind.TheVariants as kinds
