@@ -260,10 +260,11 @@ def silent(t):
     t.put(t.a.manifest, t.a.published()[t.a.manifest] + b"more")
 
 
-def certify(t, above, ca, claim, name, **more):
-    """One CA lists a certificate with the key, the folder and the manifest of another one."""
+def certify(t, above, ca, claim, name, manifest=None, **more):
+    """One CA lists a certificate with the key and the folder of another one, and its manifest or this
+    one."""
     key = copy.copy(ca.signer)
-    other = Ca(ca.name, claim, above, key=key, folder=ca.folder, manifest=ca.manifest)
+    other = Ca(ca.name, claim, above, key=key, folder=ca.folder, manifest=manifest or ca.manifest)
     above.add(name, other.certificate(above, **more))
 
 
@@ -825,6 +826,41 @@ def held_files(t, count):
     again(h, "inside.cer", count)
 
 
+def certify_again(t, above, ca, count):
+    """A CA certifies one below it so many times more, each time with a manifest at a URI of its own, of
+    the same octets. Returns the URIs of all of these manifests."""
+    own, uris = ca.published()[ca.manifest], [f"{ca.folder}{at}.mft" for at in range(count)]
+    for at, uri in enumerate(uris):
+        certify(t, above, ca, ca.claim, f"{ca.name}{at}.cer", manifest=uri)
+        t.put(uri, own)
+    return [ca.manifest, *uris]
+
+
+def foreign_attribute(t, count):
+    """A ROA with a signed attribute that may not be there, and a megabyte after it, which a CA with so many
+    manifests lists. It would take memory, if a refusal held the type of the attribute, and so the file."""
+    h = hostile(t)
+    x = t.ca("x", [PLACE], (), h)
+    x.add_roa("o.roa", 65100, [PLACE])
+    foreign = x.files["o.roa"].replace(make.SIGNING_TIME, make.oid("1.2.840.113549.1.9.6"))
+    x.files["o.roa"] = foreign + bytes(1_000_000)
+    manifests = certify_again(t, h, x, count)
+    t.says(A + C + B, *((f"{x.folder}o.roa", BAD, it) for it in manifests))
+
+
+def trimmed_claims(t, count):
+    """A CA under the policy of RFC 8360 that claims 20,000 blocks and has one of them, which a CA with so
+    many manifests lists. It takes memory: while it waits, each of its certificates holds all claims."""
+    h = hostile(t)
+    x = below(t, h)
+    y = below(t, x, "y")
+    items = b"".join(make.bits((2 * at + 1).to_bytes(2, "big")) for at in range(20_000))
+    y.claim = make.Claim([], [])
+    claims = make.extension("1.3.6.1.5.5.7.1.28", True, make.sequence(addresses(1, items)))
+    x.files["y.cer"] = y.certificate(trims=True, more=claims)
+    certify_again(t, h, x, count)
+
+
 def one_prefix(t, count):
     """A ROA that says one prefix 1,000 times as often as it is listed. It takes memory: all that a
     point says is held until it is read, repeats included."""
@@ -936,6 +972,8 @@ HOSTILE = [
     ("ROAs that inherit many blocks", copied_sets, 500, 10, 2_000),
     ("CAs that inherit many blocks", held_sets, 50, 5, 250),
     ("CAs with large files", held_files, 50, 3, 300),
+    ("a CA that claims much more than it has, which many list", trimmed_claims, 100, 3, 8_000),
+    ("a ROA with a foreign signed attribute, which many CAs list", foreign_attribute, 500, 3, 8_000),
     ("a ROA of one prefix that is listed many times", one_prefix, 35, 3, 120),
     ("a ROA of many prefixes that is listed many times", many_prefixes, 30, 3, 110),
     ("ROAs of no octets below a long URI", long_refusals, 5_000, 50, 70_000),

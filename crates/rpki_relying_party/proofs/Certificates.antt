@@ -1,6 +1,7 @@
 -- Octets that may hold the certificate of a CA: it is one with its numbers, or there is none.
-use Rattle.std.proofs.Common.{inl, inr, ℕ, List, [], ◌∷◌, Ok, Err, subst}
+use Rattle.std.proofs.Common.{◌≡◌, inl, inr, ℕ, List, [], ◌∷◌, Ok, Err, refl, subst}
 use Rattle.rpki_der.specs.declared.mode.Mode.TheVariants.{Der}
+use Rattle.rpki_der.specs.declared.error.DecodeError.TheVariants as errors
 use Rattle.rpki_crls.specs.Crl.{RevocationList}
 use Rattle.rpki_faults.specs.Checks.{◌unless◌, AllHold}
 use Rattle.rpki_faults.specs.declared.validation.ValidationError.TheVariants.{Verification}
@@ -10,12 +11,12 @@ use Rattle.rpki_certs.specs.Cert.{Certificate, CertForm}
 use Rattle.rpki_certs.specs.Validate.{Validated, IsResourceCert, ca_validation}
 use Rattle.rpki_certs.specs.declared.issuer.IssuerError.{IssuerError}
 use Rattle.rpki_certs.specs.declared.issuer.IssuerError.TheVariants.{Decode, Validation}
-use Rattle.rpki_relying_party.specs.Memory.{IsIssuerMemory}
+use Rattle.rpki_relying_party.specs.Memory.{IsIssuerMemory, plain_issuer}
 use Rattle.rpki_relying_party.specs.Setting.{Setting}
 use Rattle.rpki_relying_party.specs.Point.{IsUnrevoked}
 use Rattle.rpki_relying_party.specs.Tells.{HasCa}
 use Rattle.rpki_relying_party.specs.Under.{IsCaUnder, ca_checks}
-use Rattle.rpki_relying_party.proofs.Objects.{refuses}
+use Rattle.rpki_relying_party.proofs.Objects.{refuses, malformed-memory}
 
 module _ (s : Setting) (ca : Validated) (list : RevocationList) (octets : List ℕ) where
   -- what is answered is the certificate of a CA
@@ -30,6 +31,17 @@ module _ (s : Setting) (ca : Validated) (list : RevocationList) (octets : List �
         front = h.front;
         holds = (both.0, both.1.0, h.holds.1, r.sets);
       }
+
+  -- a fault without what it has of the octets refuses them as well
+  pub plain-ca : (error : IssuerError) → IsCaUnder s.verdict s.now ca list octets (Err error)
+      → (¬ IsIssuerMemory error)
+      → IsCaUnder s.verdict s.now ca list octets (Err (plain_issuer error))
+      × (¬ IsIssuerMemory (plain_issuer error))
+      × (plain_issuer (plain_issuer error) ≡ plain_issuer error)
+  plain-ca (Decode errors.Memory) h m = absurd (m refl)
+  plain-ca (Decode errors.Malformed) h m = (h, malformed-memory, refl)
+  plain-ca (Decode (errors.Content f)) h m = (h, malformed-memory, refl)
+  plain-ca (Validation fault) h m = (h, m, refl)
 
   -- where a fault is, unless memory ran out, there is none
   pub has-no-ca : (error : IssuerError) → IsCaUnder s.verdict s.now ca list octets (Err error)

@@ -18,7 +18,7 @@ use Rattle.rpki_routes.specs.Roa.Checks.{roa_kind}
 use Rattle.rpki_signed.specs.Exact.{IsExact}
 use Rattle.rpki_relying_party.specs.Costs.{payload_cost, waiting_cost, HeldCosts}
 use Rattle.rpki_relying_party.specs.Judged.{IsJudged}
-use Rattle.rpki_relying_party.specs.Memory.{IsIssuerMemory}
+use Rattle.rpki_relying_party.specs.Memory.{IsIssuerMemory, plain_issuer}
 use Rattle.rpki_relying_party.specs.Outcome.{IsOutcome, AppendsBoth, Puts}
 use Rattle.rpki_relying_party.specs.Setting.{Setting}
 use Rattle.rpki_relying_party.specs.Tells.{NamesPrefixesAlone, HasEntity, WhyNoRoa, WhyNoAspa}
@@ -35,7 +35,7 @@ use Rattle.rpki_relying_party.specs.declared.kind.ListedKind.{ListedKind}
 use Rattle.rpki_relying_party.specs.declared.kind.ListedKind.TheVariants as kinds
 use Rattle.rpki_relying_party.specs.declared.found.Finding.{Finding}
 use Rattle.rpki_relying_party.specs.declared.place.Place.{Place}
-use Rattle.rpki_relying_party.proofs.Certificates.{has-ca, has-no-ca}
+use Rattle.rpki_relying_party.proofs.Certificates.{has-ca, has-no-ca, plain-ca}
 use Rattle.rpki_relying_party.proofs.Objects.{has-content}
 use Rattle.rpki_relying_party.proofs.OneTelling.{roa-not-refused, aspa-not-refused}
 use Rattle.rpki_relying_party.proofs.Outcomes.{none-spent, outcome-as, outcome-of-memory}
@@ -168,16 +168,18 @@ module _ (s : Setting) (ca : Validated) (list : RevocationList) (until : Moment)
   none-told : (error : IssuerError) → IsCaUnder s.verdict s.now ca list octets (Err error)
       → (¬ IsIssuerMemory error) → (old new : List Finding) (children : List Place)
       → (HasEntity octets × (new ≡ old))
-      ⊎ ((¬ HasEntity octets) × (new ≡ old ++ refusal uri (causes.Certificate error) under ∷ []))
+      ⊎ ((¬ HasEntity octets)
+      × (new ≡ old ++ refusal uri (causes.Certificate (plain_issuer error)) under ∷ []))
       → AppendsBoth (CaTells s ca list until under uri octets) old new children children
   none-told error h m old new children (inl e) =
       first-put (CaTells s ca list until under uri octets) old new [] children
       (inr (inl (has-no-ca s ca list octets error h m, e.0, refl, refl)))
       (e.1 ∙ sym (append-nil old))
   none-told error h m old new children (inr e) =
-      first-put (CaTells s ca list until under uri octets) old new
-      (refusal uri (causes.Certificate error) under ∷ []) children
-      (inr (inr (causes.Certificate error, (h, m, e.0), refl, refl))) (e.1)
+      let p = plain-ca s ca list octets error h m in
+      let cause = causes.Certificate (plain_issuer error) in
+      first-put (CaTells s ca list until under uri octets) old new (refusal uri cause under ∷ [])
+      children (inr (inr (cause, (p.0, p.1, p.2, e.0), refl, refl))) (e.1)
 
   -- ---- what comes of that
 
@@ -278,12 +280,13 @@ module _ (s : Setting) (ca : Validated) (list : RevocationList) (until : Moment)
       → (said said2 : List Finding) (children : List Place) (room : ℕ)
       (r : Result (Unit {0}) Stop) → IfOk r (λ _. ¬ IsIssuerMemory error)
       → MatchResult r (λ _. (HasEntity octets × (said2 ≡ said)) ⊎ ((¬ HasEntity octets)
-      × (said2 ≡ said ++ refusal uri (causes.Certificate error) under ∷ [])))
+      × (said2 ≡ said ++ refusal uri (causes.Certificate (plain_issuer error)) under ∷ [])))
       (λ stop. stop ≡ Memory) → Judged kinds.Ca said said2 children children room room r
   none-judged error h said said2 children room r m p =
       free-judged kinds.Ca said said2 children children room r (IsIssuerMemory error)
       ((HasEntity octets × (said2 ≡ said)) ⊎ ((¬ HasEntity octets)
-      × (said2 ≡ said ++ refusal uri (causes.Certificate error) under ∷ []))) (λ n q. (
+      × (said2 ≡ said ++ refusal uri (causes.Certificate (plain_issuer error)) under ∷ [])))
+      (λ n q. (
         none-told error h n said said2 children q,
         none-cost error h n,
       )) m p

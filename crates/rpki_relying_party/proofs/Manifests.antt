@@ -17,7 +17,7 @@ use Rattle.rpki_relying_party.specs.Costs.{ManifestStarts, ReadCosts, ReadStarts
 use Rattle.rpki_relying_party.specs.Costs.{found_cost, named_cost, naming_cost, opening_cost}
 use Rattle.rpki_relying_party.specs.Lacks.{IsFirstRepeated, WhyNoManifest, WhyNoManifestOf}
 use Rattle.rpki_relying_party.specs.Lacks.{manifest_checks}
-use Rattle.rpki_relying_party.specs.Memory.{IsCheckMemory}
+use Rattle.rpki_relying_party.specs.Memory.{IsCheckMemory, plain_check}
 use Rattle.rpki_relying_party.specs.Outcome.{Spends, IsOutcome}
 use Rattle.rpki_relying_party.specs.Point.{AreOnce, IsManifestAt, IsManifestIn}
 use Rattle.rpki_relying_party.specs.Setting.{Setting}
@@ -29,6 +29,7 @@ use Rattle.rpki_relying_party.specs.declared.cause.Stop.{Stop}
 use Rattle.rpki_relying_party.specs.declared.cause.Stop.TheVariants.{Memory, Refused, Room}
 use Rattle.rpki_relying_party.specs.declared.copy.NoFile.{NoFile}
 use Rattle.rpki_relying_party.specs.declared.manifest.Manifest.{Manifest as Checked}
+use Rattle.rpki_relying_party.proofs.Objects.{plain-object}
 use Rattle.rpki_relying_party.proofs.Outcomes.{outcome-stops}
 
 -- the fault of a manifest that is not current
@@ -89,10 +90,16 @@ module _ (s : Setting) (ca : Validated) (folder uri : List ℕ) (old : ℕ) wher
           → Checks manifest_kind (ManifestForm Any Der) Der s.digest s.verdict ca s.now
           (λ k said. said ≡ Ok tt) octets (Err error) → (stop : Stop)
           → (IsCheckMemory error × (stop ≡ Memory)) ⊎ ((¬ IsCheckMemory error)
-          × (stop ≡ Refused (causes.Manifest (faults.Refused error)))) → IsLooked new (Err stop)
+          × (stop ≡ Refused (causes.Manifest (faults.Refused (plain_check error)))))
+          → IsLooked new (Err stop)
       refused error h stop (inl e) = subst (λ (x : Stop). IsLooked new (Err x)) (sym (e.1)) tt
       refused error h stop (inr e) = subst (λ (x : Stop). IsLooked new (Err x)) (sym (e.1))
-          (refuses (causes.Manifest (faults.Refused error)) (octets, f, (h, e.0)) refl)
+          (refuses (causes.Manifest (faults.Refused (plain_check error))) (
+            octets,
+            f,
+            plain-object manifest_kind (ManifestForm Any Der) s.digest s.verdict ca s.now
+                (λ k said. said ≡ Ok tt) octets error h (e.0),
+          ) refl)
 
       -- what is there is good
       module _ (checked : Validated × Manifest)

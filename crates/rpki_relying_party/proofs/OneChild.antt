@@ -1,6 +1,6 @@
 -- Octets that may hold the certificate of a CA: it is one with its numbers, or it is refused by one
 -- fault.
-use Rattle.std.proofs.Common.{◌≡◌, ◌⊎◌, inl, inr, ℕ, List, Err, refl, sym, subst, ap, ◌∙◌}
+use Rattle.std.proofs.Common.{◌≡◌, ◌⊎◌, inl, inr, ℕ, List, Err, sym, subst, ap, ◌∙◌}
 use Rattle.rpki_der.specs.declared.mode.Mode.TheVariants.{Der}
 use Rattle.rpki_crls.specs.Crl.{RevocationList}
 use Rattle.rpki_resources.specs.declared.block.Block.{Block}
@@ -22,8 +22,7 @@ use Rattle.rpki_certs.specs.Validate.{Validated, Sets, AreCanonical, AreValidate
 use Rattle.rpki_certs.specs.declared.issuer.IssuerError.{IssuerError}
 use Rattle.rpki_certs.specs.declared.issuer.IssuerError.TheVariants as issuers
 use Rattle.rpki_extensions.specs.declared.claims.Claims.{Claims}
-use Rattle.rpki_relying_party.specs.Memory.{IsIssuerMemory}
-use Rattle.rpki_relying_party.specs.Same.{shown_issuer}
+use Rattle.rpki_relying_party.specs.Memory.{IsIssuerMemory, plain_issuer}
 use Rattle.rpki_relying_party.specs.Setting.{Setting}
 use Rattle.rpki_relying_party.specs.Tells.{HasCa}
 use Rattle.rpki_relying_party.specs.Under.{IsCaUnder, ca_checks}
@@ -96,16 +95,16 @@ module _ (s : Setting) (ca : Validated) (list : RevocationList) (octets : List �
       (subst (λ (c : Certificate). IsValidatedUnder (in_der c) ca w) same (b.holds.2))
       (a.holds.3) (b.holds.3)
 
-  -- two refusals are shown alike
+  -- two refusals with nothing of the octets are one
   pub one-refusal : (x y : IssuerError) → IsCaUnder s.verdict s.now ca list octets (Err x)
       → IsCaUnder s.verdict s.now ca list octets (Err y) → ¬ IsIssuerMemory x
-      → ¬ IsIssuerMemory y → shown_issuer x ≡ shown_issuer y
-  one-refusal (issuers.Decode e) (issuers.Decode f) h g m n = refl
-  one-refusal (issuers.Decode e) (issuers.Validation f) h g m n =
+      → ¬ IsIssuerMemory y → plain_issuer x ≡ x → plain_issuer y ≡ y → x ≡ y
+  one-refusal (issuers.Decode e) (issuers.Decode f) h g m n p q = sym p ∙ q
+  one-refusal (issuers.Decode e) (issuers.Validation f) h g m n p q =
       absurd (m (refuses (CertForm Der) octets g.cert g.rest e h g.front))
-  one-refusal (issuers.Validation e) (issuers.Decode f) h g m n =
+  one-refusal (issuers.Validation e) (issuers.Decode f) h g m n p q =
       absurd (n (refuses (CertForm Der) octets h.cert h.rest f g h.front))
-  one-refusal (issuers.Validation e) (issuers.Validation f) h g m n =
+  one-refusal (issuers.Validation e) (issuers.Validation f) h g m n p q =
       ap (λ (v : ValidationError). issuers.Validation v) (of h.holds g.holds)
     where
       of : (e ≡ faults.Memory) ⊎ IsFirstFault (ca_checks s.verdict s.now ca list h.cert) e

@@ -24,12 +24,10 @@ use Rattle.rpki_relying_party.specs.Costs.{ManifestStarts, PointCosts, PointStar
 use Rattle.rpki_relying_party.specs.Costs.{PlaceCosts, PlaceExceeds}
 use Rattle.rpki_relying_party.specs.Kind.{kind_of}
 use Rattle.rpki_relying_party.specs.Point.{AreOnce, IsListFile}
-use Rattle.rpki_relying_party.specs.Same.{FindsOne, shown}
+use Rattle.rpki_relying_party.specs.Same.{FindsOne}
 use Rattle.rpki_relying_party.specs.Setting.{Setting}
 use Rattle.rpki_relying_party.specs.Tells.{HasRoa, HasAspa, HasCa}
 use Rattle.rpki_relying_party.specs.declared.cause.Cause.{Cause}
-use Rattle.rpki_relying_party.specs.declared.cause.Cause.TheVariants as causes
-use Rattle.rpki_relying_party.specs.declared.cause.ManifestFault.TheVariants as manifests
 use Rattle.rpki_relying_party.specs.declared.copy.NoFile.{NoFile}
 use Rattle.rpki_relying_party.specs.declared.kind.ListedKind.{ListedKind}
 use Rattle.rpki_relying_party.specs.declared.kind.ListedKind.TheVariants as kinds
@@ -56,25 +54,6 @@ one-costs Is cost same m n (inl h) (inl g) =
 one-costs Is cost same m n (inl h) (inr g) = absurd (g.0 (h.0) (h.1))
 one-costs Is cost same m n (inr h) (inl g) = absurd (h.0 (g.0) (g.1))
 one-costs Is cost same m n (inr h) (inr g) = h.1 ∙ sym (g.1)
-
--- a refusal takes as much as one that is shown alike
-shown-named : (cause : Cause) → named_cost (shown cause) ≡ named_cost cause
-shown-named (causes.Manifest (manifests.NoFile why)) = refl
-shown-named (causes.Manifest (manifests.Refused error)) = refl
-shown-named (causes.Manifest (manifests.NotYet time)) = refl
-shown-named (causes.Manifest (manifests.Stale time)) = refl
-shown-named (causes.Manifest (manifests.Twice uri)) = refl
-shown-named (causes.List fault) = refl
-shown-named (causes.File uri fault) = refl
-shown-named (causes.Object error) = refl
-shown-named causes.RoaCertificate = refl
-shown-named (causes.Certificate error) = refl
-shown-named (causes.Limit count) = refl
-shown-named (causes.Memory count) = refl
-
-one-named-cost : (a b : Cause) → shown a ≡ shown b → named_cost a ≡ named_cost b
-one-named-cost a b e =
-    sym (shown-named a) ∙ ap (λ (c : Cause). named_cost c) e ∙ shown-named b
 
 module _ (s : Setting) (one : FindsOne s) where
   -- ---- one read
@@ -356,7 +335,7 @@ module _ (s : Setting) (one : FindsOne s) where
         h.2.2,
         g.2.2,
         one-read opening_cost uri (h.2.0) (g.2.0) (h.2.1) (g.2.1),
-        one-named-cost (h.0) (g.0)
+        ap (λ (c : Cause). named_cost c)
             (one-why-manifest s one ca folder uri (h.0) (g.0) (h.1) (g.1)),
       )
 

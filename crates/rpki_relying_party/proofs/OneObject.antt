@@ -22,9 +22,8 @@ use Rattle.rpki_sigobj.specs.Signed.Kind.{ObjectKind}
 use Rattle.rpki_sigobj.specs.Signed.Process.{validation, before_revocation, said_checks}
 use Rattle.rpki_sigobj.specs.Signed.Process.{IsProcessed, AnswersAsked}
 use Rattle.rpki_sigobj.specs.Verify.{Digester}
-use Rattle.rpki_relying_party.specs.Memory.{IsCheckMemory}
+use Rattle.rpki_relying_party.specs.Memory.{IsCheckMemory, plain_check}
 use Rattle.rpki_relying_party.specs.Point.{HasGood, IsUnrevoked}
-use Rattle.rpki_relying_party.specs.Same.{shown_check}
 use Rattle.rpki_relying_party.specs.Setting.{Setting}
 use Rattle.rpki_relying_party.specs.Tells.{HasContent}
 use Rattle.rpki_relying_party.specs.Under.{SaysOf}
@@ -178,15 +177,15 @@ module _ {X : Type 0} (s : Setting) (kind : ObjectKind X) (form : List ℕ → X
         of (inr p) = good-said kind sound s.digest s.verdict ca s.now g.object
             (Says (cert_in Der g.object)) (g.holds.0.0) (g.holds.0.1) fault p
 
-    -- and two refusals are shown alike
+    -- and two refusals with nothing of the octets are one
     pub one-error : SaysOne Says → (x y : CheckError) → Refused x → Refused y
-        → ¬ IsCheckMemory x → ¬ IsCheckMemory y → shown_check x ≡ shown_check y
-    one-error one (checks.Decode e) (checks.Decode f) h g m n = refl
-    one-error one (checks.Decode e) (checks.Validation f) h g m n =
+        → ¬ IsCheckMemory x → ¬ IsCheckMemory y → plain_check x ≡ x → plain_check y ≡ y → x ≡ y
+    one-error one (checks.Decode e) (checks.Decode f) h g m n p q = sym p ∙ q
+    one-error one (checks.Decode e) (checks.Validation f) h g m n p q =
         absurd (m (refuses (ObjectForm kind.type form Der) octets g.object g.rest e h g.front))
-    one-error one (checks.Validation e) (checks.Decode f) h g m n =
+    one-error one (checks.Validation e) (checks.Decode f) h g m n p q =
         absurd (n (refuses (ObjectForm kind.type form Der) octets h.object h.rest f g h.front))
-    one-error one (checks.Validation e) (checks.Validation f) h g m n =
+    one-error one (checks.Validation e) (checks.Validation f) h g m n same same2 =
         ap (λ (v : ValidationError). checks.Validation v) (of h.holds (subst (Answers f)
         (h.front.only g.object g.rest g.front.found).0 g.holds))
       where

@@ -24,7 +24,7 @@ use Rattle.rpki_relying_party.specs.Lacks.{IsFirstRepeated, WhyNoFiles, WhyNoMan
 use Rattle.rpki_relying_party.specs.Point.{Point, IsPointIn, IsManifestIn, IsManifestAt, IsListFile}
 use Rattle.rpki_relying_party.specs.Point.{IsListAt, IsListOf, Has, PublishesIn}
 use Rattle.rpki_relying_party.specs.Point.{AreOnce, NamesManifest}
-use Rattle.rpki_relying_party.specs.Same.{FindsOne, shown, shown_manifest}
+use Rattle.rpki_relying_party.specs.Same.{FindsOne}
 use Rattle.rpki_relying_party.specs.Setting.{Setting}
 use Rattle.rpki_relying_party.specs.Tells.{NamesNoPoint}
 use Rattle.rpki_relying_party.specs.declared.cause.Cause.{Cause}
@@ -238,33 +238,32 @@ module _ (s : Setting) (one : FindsOne s) where
           ∙ sym (g.1)
 
       one-bad : (octets : List ℕ) (a b : ManifestFault) → IsBadBy octets a → IsBadBy octets b
-          → shown_manifest a ≡ shown_manifest b
-      one-bad octets a b (inl h) (inl g) = ap (λ (f : ManifestFault). shown_manifest f) (h.1)
+          → a ≡ b
+      one-bad octets a b (inl h) (inl g) = h.1
           ∙ ap (λ (e : CheckError). manifests.Refused e) (one-error s manifest_kind
           (ManifestForm Any Der) ca octets manifest-sound (λ k said. said ≡ Ok tt) yes-says-one
-          (h.0) (g.0) (h.2.0) (g.2.0) (h.2.1) (g.2.1))
-          ∙ sym (ap (λ (f : ManifestFault). shown_manifest f) (g.1))
+          (h.0) (g.0) (h.2.0) (g.2.0) (h.2.1) (g.2.1) (h.2.2) (g.2.2))
+          ∙ sym (g.1)
       one-bad octets a b (inl h) (inr g) =
           absurd (good-not-refused octets (g.0) (g.1) (h.0) (g.2) (h.2))
       one-bad octets a b (inr h) (inl g) =
           absurd (good-not-refused octets (h.0) (h.1) (g.0) (h.2) (g.2))
-      one-bad octets a b (inr h) (inr g) = ap (λ (f : ManifestFault). shown_manifest f)
-          (one-outdated (h.1) a b (h.3) (subst (λ (m : Manifest). IsOutdatedBy m b)
-          (same-content octets (g.0) (h.0) (g.1) (h.1) (g.2) (h.2)).1 (g.3)))
+      one-bad octets a b (inr h) (inr g) =
+          one-outdated (h.1) a b (h.3) (subst (λ (m : Manifest). IsOutdatedBy m b)
+          (same-content octets (g.0) (h.0) (g.1) (h.1) (g.2) (h.2)).1 (g.3))
 
-      one-none : (uri : List ℕ) (a b : ManifestFault) → IsNoneBy uri a → IsNoneBy uri b
-          → shown_manifest a ≡ shown_manifest b
-      one-none uri a b (inl h) (inl g) = ap (λ (f : ManifestFault). shown_manifest f) (h.1
+      one-none : (uri : List ℕ) (a b : ManifestFault) → IsNoneBy uri a → IsNoneBy uri b → a ≡ b
+      one-none uri a b (inl h) (inl g) = h.1
           ∙ ap (λ (w : NoFile). manifests.NoFile w)
           (err-one (h.0) (g.0) (one uri (Err (h.0)) (Err (g.0)) (h.2) (g.2)))
-          ∙ sym (g.1))
+          ∙ sym (g.1)
       one-none uri a b (inl h) (inr g) = absurd (found-none uri (g.0) (h.0) (g.1) (h.2))
       one-none uri a b (inr h) (inl g) = absurd (found-none uri (h.0) (g.0) (h.1) (g.2))
       one-none uri a b (inr h) (inr g) = one-bad (h.0) a b (h.2)
           (subst (λ (o : List ℕ). IsBadBy o b) (found-one uri (g.0) (h.0) (g.1) (h.1)) (g.2))
 
       pub one-why-manifest : (uri : List ℕ) (a b : Cause) → WhyNoManifestOf s ca folder uri a
-          → WhyNoManifestOf s ca folder uri b → shown a ≡ shown b
+          → WhyNoManifestOf s ca folder uri b → a ≡ b
       one-why-manifest uri (causes.Manifest a) (causes.Manifest b) h g =
           ap (λ (f : ManifestFault). causes.Manifest f)
           (one-none uri a b (none-by uri a h) (none-by uri b g))
@@ -476,9 +475,9 @@ module _ (s : Setting) (one : FindsOne s) where
           (subst (λ (u : List ℕ). WhyNoFiles s (uris_of folder manifest.files) u b)
           (one-list folder signer manifest (g.0) (h.0) (g.1) (h.1) (g.2) (h.2)).0 (g.3))
 
-      -- it is refused for one cause, as it is shown
+      -- it is refused for one cause
       pub one-cause : (a b : Cause) → WhyNoPoint s ca folder uri a → WhyNoPoint s ca folder uri b
-          → shown a ≡ shown b
+          → a ≡ b
       one-cause a b (inl h) (inl g) = one-why-manifest folder uri a b h g
       one-cause a b (inl h) (inr g) =
           absurd (manifest-stays folder uri (g.0) (g.1) (g.2) a h)
@@ -486,9 +485,9 @@ module _ (s : Setting) (one : FindsOne s) where
           absurd (manifest-stays folder uri (h.0) (h.1) (h.2) b g)
       one-cause a b (inr h) (inr g) =
           let same = one-manifest folder uri (g.0) (h.0) (g.1) (h.1) (g.2) (h.2) in
-          ap (λ (c : Cause). shown c) (one-why-rest (h.0) (h.1) (h.2) a b (h.3)
+          one-why-rest (h.0) (h.1) (h.2) a b (h.3)
           (subst (λ (c : Certificate). WhyNoRest c (h.1) b) (same.0)
-          (subst (λ (m : Manifest). WhyNoRest (g.0) m b) (same.1) (g.3))))
+          (subst (λ (m : Manifest). WhyNoRest (g.0) m b) (same.1) (g.3)))
 
       rest-stays : (p : Point) (h : IsPointIn s ca folder uri p)
           → All (IsThere p.list_uri) (uris_of folder p.manifest.files) → (cause : Cause)

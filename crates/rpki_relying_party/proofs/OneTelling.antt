@@ -22,10 +22,11 @@ use Rattle.rpki_signed.specs.declared.check.CheckError.{CheckError}
 use Rattle.rpki_relying_party.specs.Found.{SaysLike}
 use Rattle.rpki_relying_party.specs.Kind.{kind_of}
 use Rattle.rpki_relying_party.specs.Memory.{IsCheckMemory, IsIssuerMemory}
+use Rattle.rpki_relying_party.specs.Memory.{plain_check, plain_issuer}
 use Rattle.rpki_relying_party.specs.Paths.{TellsOne}
 use Rattle.rpki_relying_party.specs.Place.{AreAlike, key_of, part_of, set_part, uri_part}
 use Rattle.rpki_relying_party.specs.Point.{Point}
-use Rattle.rpki_relying_party.specs.Same.{FindsOne, shown}
+use Rattle.rpki_relying_party.specs.Same.{FindsOne}
 use Rattle.rpki_relying_party.specs.Setting.{Setting}
 use Rattle.rpki_relying_party.specs.Tells.{HasContent, HasRoa, HasAspa, HasCa, HasEntity}
 use Rattle.rpki_relying_party.specs.Tells.{NamesPrefixesAlone, WhyNoRoa, WhyNoAspa, WhyNoCa}
@@ -64,7 +65,7 @@ no-children a b p q = zip-same AreAlike a [] b [] p q tt
 
 -- one URI that is refused twice
 alike-refused : (uri under under2 : List ℕ) (a b : Cause) (said said2 : List Finding)
-    → said ≡ refusal uri a under ∷ [] → said2 ≡ refusal uri b under2 ∷ [] → shown a ≡ shown b
+    → said ≡ refusal uri a under ∷ [] → said2 ≡ refusal uri b under2 ∷ [] → a ≡ b
     → AllZip SaysLike said said2
 alike-refused uri under under2 a b said said2 p q e = zip-same SaysLike said
     (refusal uri a under ∷ []) said2 (refusal uri b under2 ∷ []) p q ((refl, e), tt)
@@ -90,7 +91,7 @@ module _ (s : Setting) (ca : Validated) (list : RevocationList) (octets : List �
 
   abbrev IsRefusedRoa : CheckError → Type 0
   IsRefusedRoa error = Checks roa_kind RoaForm Der s.digest s.verdict ca s.now (SaysOf list) octets
-      (Err error) × (¬ IsCheckMemory error)
+      (Err error) × (¬ IsCheckMemory error) × (plain_check error ≡ error)
 
   abbrev IsBadRoa : Type 0
   IsBadRoa = (cert : Certificate) × (roa : Roa)
@@ -128,24 +129,25 @@ module _ (s : Setting) (ca : Validated) (list : RevocationList) (octets : List �
       (one-roa cert (r.0) roa (r.1) (h.0) (r.2)).0 (h.1))
   roa-not-refused cert roa h cause r = r
 
-  one-why-roa : (a b : Cause) → IsRoaBy a → IsRoaBy b → shown a ≡ shown b
-  one-why-roa a b (inl h) (inl g) = ap (λ (c : Cause). shown c) (h.1)
+  one-why-roa : (a b : Cause) → IsRoaBy a → IsRoaBy b → a ≡ b
+  one-why-roa a b (inl h) (inl g) = h.1
       ∙ ap (λ (e : CheckError). causes.Object e) (one-error s roa_kind RoaForm ca octets roa-sound
-      (SaysOf list) (list-says-one list) (h.0) (g.0) (h.2.0) (g.2.0) (h.2.1) (g.2.1))
-      ∙ sym (ap (λ (c : Cause). shown c) (g.1))
+      (SaysOf list) (list-says-one list) (h.0) (g.0) (h.2.0) (g.2.0) (h.2.1) (g.2.1) (h.2.2)
+      (g.2.2))
+      ∙ sym (g.1)
   one-why-roa a b (inl h) (inr g) =
       absurd (roa-stays (g.1.0) (g.1.1) (g.1.2) (h.0) (h.2))
   one-why-roa a b (inr h) (inl g) =
       absurd (roa-stays (h.1.0) (h.1.1) (h.1.2) (g.0) (g.2))
-  one-why-roa a b (inr h) (inr g) = ap (λ (c : Cause). shown c) (h.0 ∙ sym (g.0))
+  one-why-roa a b (inr h) (inr g) = h.0 ∙ sym (g.0)
 
   abbrev IsAspaBy : Cause → Type 0
   IsAspaBy cause = (error : CheckError) × (cause ≡ causes.Object error)
       × Checks aspa_kind (AspaForm s.providers) Der s.digest s.verdict ca s.now (SaysOf list)
-      octets (Err error) × (¬ IsCheckMemory error)
+      octets (Err error) × (¬ IsCheckMemory error) × (plain_check error ≡ error)
 
   aspa-by : (cause : Cause) → WhyNoAspa s ca list octets cause → IsAspaBy cause
-  aspa-by (causes.Object error) h = (error, refl, h.0, h.1)
+  aspa-by (causes.Object error) h = (error, refl, h.0, h.1, h.2)
   aspa-by cause h = absurd h
 
   pub aspa-not-refused : (cert : Certificate) (aspa : Aspa) → HasAspa s ca list octets cert aspa
@@ -154,19 +156,20 @@ module _ (s : Setting) (ca : Validated) (list : RevocationList) (octets : List �
       (AspaForm s.providers) ca list octets aspa-sound cert aspa h error (r.0) (r.1)
   aspa-not-refused cert aspa h cause r = r
 
-  one-why-aspa : (a b : Cause) → IsAspaBy a → IsAspaBy b → shown a ≡ shown b
-  one-why-aspa a b h g = ap (λ (c : Cause). shown c) (h.1)
+  one-why-aspa : (a b : Cause) → IsAspaBy a → IsAspaBy b → a ≡ b
+  one-why-aspa a b h g = h.1
       ∙ ap (λ (e : CheckError). causes.Object e) (one-error s aspa_kind (AspaForm s.providers) ca
-      octets aspa-sound (SaysOf list) (list-says-one list) (h.0) (g.0) (h.2) (g.2) (h.3) (g.3))
-      ∙ sym (ap (λ (c : Cause). shown c) (g.1))
+      octets aspa-sound (SaysOf list) (list-says-one list) (h.0) (g.0) (h.2) (g.2) (h.3) (g.3)
+      (h.4) (g.4))
+      ∙ sym (g.1)
 
   abbrev IsCaBy : Cause → Type 0
   IsCaBy cause = (error : IssuerError) × (cause ≡ causes.Certificate error)
       × IsCaUnder s.verdict s.now ca list octets (Err error) × (¬ IsIssuerMemory error)
-      × (¬ HasEntity octets)
+      × (plain_issuer error ≡ error) × (¬ HasEntity octets)
 
   ca-by : (cause : Cause) → WhyNoCa s ca list octets cause → IsCaBy cause
-  ca-by (causes.Certificate error) h = (error, refl, h.0, h.1, h.2)
+  ca-by (causes.Certificate error) h = (error, refl, h.0, h.1, h.2, h.3)
   ca-by cause h = absurd h
 
   pub ca-not-refused : (v : Validated) → HasCa s ca list octets v → (cause : Cause)
@@ -175,11 +178,11 @@ module _ (s : Setting) (ca : Validated) (list : RevocationList) (octets : List �
       has-no-ca s ca list octets error (r.0) (r.1) v h
   ca-not-refused v h cause r = r
 
-  one-why-ca : (a b : Cause) → IsCaBy a → IsCaBy b → shown a ≡ shown b
-  one-why-ca a b h g = ap (λ (c : Cause). shown c) (h.1)
+  one-why-ca : (a b : Cause) → IsCaBy a → IsCaBy b → a ≡ b
+  one-why-ca a b h g = h.1
       ∙ ap (λ (e : IssuerError). causes.Certificate e)
-      (one-refusal s ca list octets (h.0) (g.0) (h.2) (g.2) (h.3) (g.3))
-      ∙ sym (ap (λ (c : Cause). shown c) (g.1))
+      (one-refusal s ca list octets (h.0) (g.0) (h.2) (g.2) (h.3) (g.3) (h.4) (g.4))
+      ∙ sym (g.1)
 
   -- ---- what a file tells
 
@@ -244,9 +247,9 @@ module _ (s : Setting) (ca : Validated) (list : RevocationList) (octets : List �
       ca-tells (inr (inl h)) (inl g) = absurd (h.0 (g.0) (g.1))
       ca-tells (inr (inl h)) (inr (inl g)) =
           (alike-nothing said said2 (h.2) (g.2), no-children children children2 (h.3) (g.3))
-      ca-tells (inr (inl h)) (inr (inr g)) = absurd ((ca-by (g.0) (g.1)).4 (h.1))
+      ca-tells (inr (inl h)) (inr (inr g)) = absurd ((ca-by (g.0) (g.1)).5 (h.1))
       ca-tells (inr (inr h)) (inl g) = absurd (ca-not-refused (g.0) (g.1) (h.0) (h.1))
-      ca-tells (inr (inr h)) (inr (inl g)) = absurd ((ca-by (h.0) (h.1)).4 (g.1))
+      ca-tells (inr (inr h)) (inr (inl g)) = absurd ((ca-by (h.0) (h.1)).5 (g.1))
       ca-tells (inr (inr h)) (inr (inr g)) = (
         alike-refused uri under under (h.0) (g.0) said said2 (h.2) (g.2)
             (one-why-ca (h.0) (g.0) (ca-by (h.0) (h.1)) (ca-by (g.0) (g.1))),

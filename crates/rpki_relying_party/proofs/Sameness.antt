@@ -220,7 +220,7 @@ module _ (s : Setting) (ca by : Validated) where
 
     no-roa-to : (cause : Cause) → WhyNoRoa s ca list octets cause → WhyNoRoa s to list octets cause
     no-roa-to (causes.Object error) h =
-        (checks-to roa_kind RoaForm octets (SaysOf list) error (h.0), h.1)
+        (checks-to roa_kind RoaForm octets (SaysOf list) error (h.0), h.1, h.2)
     no-roa-to causes.RoaCertificate h = (
       h.0,
       h.1,
@@ -232,11 +232,11 @@ module _ (s : Setting) (ca by : Validated) where
     no-aspa-to : (cause : Cause) → WhyNoAspa s ca list octets cause
         → WhyNoAspa s to list octets cause
     no-aspa-to (causes.Object error) h =
-        (checks-to aspa_kind (AspaForm s.providers) octets (SaysOf list) error (h.0), h.1)
+        (checks-to aspa_kind (AspaForm s.providers) octets (SaysOf list) error (h.0), h.1, h.2)
     no-aspa-to cause h = absurd h
 
     no-ca-to : (cause : Cause) → WhyNoCa s ca list octets cause → WhyNoCa s to list octets cause
-    no-ca-to (causes.Certificate error) h = (issued-to error (h.0), h.1, h.2)
+    no-ca-to (causes.Certificate error) h = (issued-to error (h.0), h.1, h.2, h.3)
     no-ca-to cause h = absurd h
 
     -- ---- what a file tells

@@ -7,6 +7,7 @@ use Rattle.rpki_certs.specs.Cert.{Certificate}
 use Rattle.rpki_certs.specs.Validate.{Validated}
 use Rattle.rpki_files.specs.Manifest.{Manifest}
 use Rattle.rpki_files.specs.Manifest.Uris.{UriAndHash, uris_of}
+use Rattle.rpki_resources.specs.Claim.{added}
 use Rattle.rpki_routes.specs.Aspa.{Aspa}
 use Rattle.rpki_routes.specs.Roa.{Roa, addresses}
 use Rattle.rpki_relying_party.specs.Kind.{kind_of}
@@ -32,6 +33,12 @@ opening_cost = 1024
 -- how many blocks the three sets of a CA have
 abbrev pub blocks_of : Validated → ℕ
 blocks_of v = length v.sets.as_numbers + (length v.sets.v4 + length v.sets.v6)
+
+-- how many blocks a certificate claims of the three families, where it does not inherit
+abbrev pub claimed_of : Certificate → ℕ
+claimed_of c = length (added c.tbs.extensions.claims.as_numbers)
+    + (length (added c.tbs.extensions.claims.addresses.v4)
+    + length (added c.tbs.extensions.claims.addresses.v6))
 
 -- To look for a file that a CA lists, whose manifest has the first of these URIs, and the file the
 -- second. A certificate that inherits copies the sets of the CA, and a refusal holds both URIs.
@@ -62,9 +69,11 @@ abbrev pub payload_cost : ℕ
 payload_cost = 2048
 
 -- what a place takes that waits: 16,384, and 8 for each octet of the file with its certificate,
--- also of those after it, and 1,024 for each block of its sets
+-- also of those after it, and 1,024 for each block of its sets and for each that it claims, which
+-- are more where it may claim what its issuer does not have (RFC 8360)
 abbrev pub waiting_cost : List ℕ → Validated → ℕ
-waiting_cost octets v = 16384 + 8 * length octets + 1024 * blocks_of v
+waiting_cost octets v =
+    16384 + 8 * length octets + 1024 * (blocks_of v + claimed_of v.cert.certificate)
 
 -- ---- what is spent, and what on some first steps
 

@@ -3,7 +3,6 @@ use Rattle.std.specs.Prelude.{◌≡◌, ◌≤◌, ◌⊎◌, List, Some, All, 
 use Rattle.std.specs.BTreeMap.{get_by_text}
 use Rattle.rpki_basics.specs.Moment.{stamp}
 use Rattle.rpki_relying_party.specs.Payload.{held_in}
-use Rattle.rpki_relying_party.specs.Same.{shown}
 use Rattle.rpki_relying_party.specs.Texts.{refusal_line}
 use Rattle.rpki_relying_party.specs.declared.found.Finding.{Finding}
 use Rattle.rpki_relying_party.specs.declared.found.Finding.TheVariants as findings
@@ -12,11 +11,10 @@ use Rattle.rpki_relying_party.specs.declared.found.Refusal.{Refusal}
 use Rattle.rpki_relying_party.specs.declared.payload.Held.{Held}
 
 -- The two findings say the same: a payload by the same object, though perhaps not for as long, or
--- that the same is refused, with a cause that is shown alike, though perhaps below another CA.
+-- that the same is refused for the same cause, though perhaps below another CA.
 abbrev pub SaysLike : Finding → Finding → Type 0
 SaysLike (findings.Payload x h) (findings.Payload y g) = (x ≡ y) × (h.object ≡ g.object)
-SaysLike (findings.Refusal r) (findings.Refusal q) =
-    (r.uri ≡ q.uri) × (shown r.cause ≡ shown q.cause)
+SaysLike (findings.Refusal r) (findings.Refusal q) = (r.uri ≡ q.uri) × (r.cause ≡ q.cause)
 SaysLike x y = ⊥
 
 -- This was found: until then and by that object the payload is held, or the refusal is kept.

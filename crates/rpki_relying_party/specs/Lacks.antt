@@ -17,7 +17,7 @@ use Rattle.rpki_files.specs.Manifest.Checks.{manifest_kind}
 use Rattle.rpki_files.specs.Manifest.Uris.{UriAndHash, uris_of}
 use Rattle.rpki_signed.specs.Check.{Checks}
 use Rattle.rpki_signed.specs.declared.check.CheckError.{CheckError}
-use Rattle.rpki_relying_party.specs.Memory.{IsCheckMemory}
+use Rattle.rpki_relying_party.specs.Memory.{IsCheckMemory, plain_check}
 use Rattle.rpki_relying_party.specs.Point.{AreOnce, Has, IsManifestIn, IsManifestAt, IsListFile}
 use Rattle.rpki_relying_party.specs.Point.{IsListAt, IsUnrevoked}
 use Rattle.rpki_relying_party.specs.Setting.{Setting}
@@ -33,12 +33,12 @@ use Rattle.rpki_relying_party.specs.declared.cause.ManifestFault.TheVariants as 
 -- ---- the manifest (sections 6.2 and 6.3)
 
 -- The octets begin with no manifest that is good under the CA: this is the fault of the first check
--- that fails.
+-- that fails, with nothing of the octets.
 abbrev pub IsRefusedManifest : Setting → Validated → List ℕ → CheckError → Type 0
 IsRefusedManifest s ca octets error =
     Checks manifest_kind (ManifestForm Any Der) Der s.digest s.verdict ca s.now
     (λ k said. said ≡ Ok tt) octets (Err error)
-    × (¬ IsCheckMemory error)
+    × (¬ IsCheckMemory error) × (plain_check error ≡ error)
 
 -- What is checked of a manifest, in this order: it was made by now, and the next one is not due.
 abbrev pub manifest_checks : Moment → Manifest → List (Check ManifestFault)

@@ -1,4 +1,4 @@
--- Faults that say no more than that memory ran out.
+-- Faults that say no more than that memory ran out, and faults as a refusal keeps them.
 use Rattle.std.specs.Prelude.{◌≡◌}
 use Rattle.rpki_der.specs.declared.error.DecodeError.TheVariants as errors
 use Rattle.rpki_faults.specs.declared.validation.ValidationError.TheVariants as faults
@@ -16,3 +16,14 @@ IsCheckMemory (checks.Validation fault) = fault ≡ faults.Memory
 abbrev pub IsIssuerMemory : IssuerError → Type 0
 IsIssuerMemory (issuers.Decode error) = error ≡ errors.Memory
 IsIssuerMemory (issuers.Validation fault) = fault ≡ faults.Memory
+
+-- the fault of an object with nothing of its octets: what does not decode is malformed, whichever
+-- fault was met first
+abbrev pub plain_check : CheckError → CheckError
+plain_check (checks.Decode error) = checks.Decode errors.Malformed
+plain_check (checks.Validation fault) = checks.Validation fault
+
+-- the fault of a certificate with nothing of its octets
+abbrev pub plain_issuer : IssuerError → IssuerError
+plain_issuer (issuers.Decode error) = issuers.Decode errors.Malformed
+plain_issuer (issuers.Validation fault) = issuers.Validation fault

@@ -25,6 +25,7 @@ use Rattle.rpki_sigobj.specs.Signed.Kind.{ObjectKind}
 use Rattle.rpki_relying_party.specs.Kind.{kind_of}
 use Rattle.rpki_relying_party.specs.Lacks.{WhyNoPoint}
 use Rattle.rpki_relying_party.specs.Memory.{IsCheckMemory, IsIssuerMemory}
+use Rattle.rpki_relying_party.specs.Memory.{plain_check, plain_issuer}
 use Rattle.rpki_relying_party.specs.Payload.{origin_key}
 use Rattle.rpki_relying_party.specs.Point.{Point, IsPointIn, Has, HasGood, IsUnrevoked}
 use Rattle.rpki_relying_party.specs.Point.{PublishesIn, NamesManifest}
@@ -96,13 +97,13 @@ IsEntity c = (c.tbs.extensions.key.basic_ca ≡ None) × (c.tbs.extensions.key.u
 abbrev pub HasEntity : List ℕ → Type 0
 HasEntity octets = BeginsWithCert octets IsEntity
 
--- ---- why a file is refused: the first check that fails
+-- ---- why a file is refused: the first check that fails, with nothing of the octets
 
 -- Why a ROA is refused: a check of it fails, or its certificate does not name prefixes alone.
 abbrev pub WhyNoRoa : Setting → Validated → RevocationList → List ℕ → Cause → Type 0
 WhyNoRoa s ca list octets (causes.Object error) =
     Checks roa_kind RoaForm Der s.digest s.verdict ca s.now (SaysOf list) octets (Err error)
-    × (¬ IsCheckMemory error)
+    × (¬ IsCheckMemory error) × (plain_check error ≡ error)
 WhyNoRoa s ca list octets causes.RoaCertificate = (cert : Certificate) × (roa : Roa)
     × HasContent s roa_kind RoaForm ca list octets cert roa
     × (¬ NamesPrefixesAlone cert.tbs.extensions.claims)
@@ -112,14 +113,14 @@ WhyNoRoa s ca list octets cause = ⊥
 abbrev pub WhyNoAspa : Setting → Validated → RevocationList → List ℕ → Cause → Type 0
 WhyNoAspa s ca list octets (causes.Object error) = Checks aspa_kind (AspaForm s.providers) Der
     s.digest s.verdict ca s.now (SaysOf list) octets (Err error)
-    × (¬ IsCheckMemory error)
+    × (¬ IsCheckMemory error) × (plain_check error ≡ error)
 WhyNoAspa s ca list octets cause = ⊥
 
 -- Why a certificate is refused: a check of it fails. That of an end entity is passed over.
 abbrev pub WhyNoCa : Setting → Validated → RevocationList → List ℕ → Cause → Type 0
 WhyNoCa s ca list octets (causes.Certificate error) =
     IsCaUnder s.verdict s.now ca list octets (Err error) × (¬ IsIssuerMemory error)
-    × (¬ HasEntity octets)
+    × (plain_issuer error ≡ error) × (¬ HasEntity octets)
 WhyNoCa s ca list octets cause = ⊥
 
 -- ---- what is told: what is said, and the CAs that are held

@@ -8,6 +8,7 @@ ghost use Rattle.rpki_relying_party.specs.Costs.{payload_cost};
 ghost use Rattle.rpki_relying_party.specs.Judged.{IsJudged, IsFileRead, AreFilesRead};
 ghost use Rattle.rpki_relying_party.specs.Kind.{kind_of};
 ghost use Rattle.rpki_relying_party.specs.Memory.{IsCheckMemory, IsIssuerMemory};
+ghost use Rattle.rpki_relying_party.specs.Memory.{plain_check, plain_issuer};
 ghost use Rattle.rpki_relying_party.specs.Outcome.{Puts};
 ghost use Rattle.rpki_relying_party.specs.Passes.{setting};
 ghost use Rattle.rpki_relying_party.specs.Tells.{NamesPrefixesAlone, IsEntity, HasEntity};
@@ -22,7 +23,7 @@ use crate::copy::Repository;
 use crate::found::{BoxedRefusal, Finding, Refusal};
 use crate::kind::{ListedKind, kind_of};
 use crate::list::List;
-use crate::memory::{is_check_memory, is_issuer_memory};
+use crate::memory::{is_check_memory, is_issuer_memory, plain_check, plain_issuer};
 use crate::pass::Pass;
 use crate::payload::{Held, Payload, origin_of, provider_of};
 use crate::place::{Place, cost_of, earlier};
@@ -107,7 +108,7 @@ fn refuse_object(
 ) -> Result<(), Stop>
     ensures memory { IfOk result (λ _. ¬ IsCheckMemory error) }
     ensures refused { MatchResult result (λ _. said.new.items
-        ≡ said.old.items ++ refusal uri (Causes.Object error) under.now ∷ [])
+        ≡ said.old.items ++ refusal uri (Causes.Object (plain_check error)) under.now ∷ [])
         (λ stop. stop ≡ Stops.Memory) }
 {
     if is_check_memory(&error) {
@@ -115,7 +116,8 @@ fn refuse_object(
         drop(error);
         return Err(Stop::Memory);
     }
-    refuse(alloc, uri, Cause::Object(error), under, said)
+    let cause = Cause::Object(plain_check(error));
+    refuse(alloc, uri, cause, under, said)
 }
 
 // Whether a certificate names no AS numbers and inherits no addresses (RFC 9582, section 5).
@@ -314,8 +316,8 @@ fn refuse_cert(
 ) -> Result<(), Stop>
     ensures memory { IfOk result (λ _. ¬ IsIssuerMemory error) }
     ensures said { MatchResult result (λ _. (HasEntity octets × (said.new.items ≡ said.old.items))
-        ⊎ ((¬ HasEntity octets) × (said.new.items
-        ≡ said.old.items ++ refusal uri (Causes.Certificate error) under.now ∷ [])))
+        ⊎ ((¬ HasEntity octets) × (said.new.items ≡ said.old.items
+        ++ refusal uri (Causes.Certificate (plain_issuer error)) under.now ∷ [])))
         (λ stop. stop ≡ Stops.Memory) }
 {
     if is_issuer_memory(&error) {
@@ -335,7 +337,10 @@ fn refuse_cert(
             drop(error);
             Ok(())
         }
-        Ok(false) => refuse(alloc, uri, Cause::Certificate(error), under, said),
+        Ok(false) => {
+            let cause = Cause::Certificate(plain_issuer(error));
+            refuse(alloc, uri, cause, under, said)
+        }
     }
 }
 

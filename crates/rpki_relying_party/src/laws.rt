@@ -29,9 +29,9 @@ use crate::pass::Pass;
 use rpki_basics::Crypto;
 
 /// Places that are alike tell one thing, where the copy finds one thing for each URI, as a copy in
-/// memory does: the same payloads by the same objects, refusals of the same that are shown with the
-/// same causes, and children that are alike, in the same order. Until when the payloads hold, and
-/// below which CA a refused point stands, depends on how each of the two was reached.
+/// memory does: the same payloads by the same objects, refusals of the same for the same causes, and
+/// children that are alike, in the same order. Until when the payloads hold, and below which CA a
+/// refused point stands, depends on how each of the two was reached.
 ///
 /// So places with one key tell one thing, which is what a walk needs to be complete (`walk_from`).
 pub fn places_tell_one<R: Repository, C: Crypto>(pass: &Pass<'_, R, C>)

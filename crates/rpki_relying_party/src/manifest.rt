@@ -15,7 +15,7 @@ ghost use Rattle.rpki_signed.specs.Exact.{IsExact};
 ghost use Rattle.rpki_relying_party.specs.Costs.{ManifestStarts, ReadCosts, RefusedCosts};
 ghost use Rattle.rpki_relying_party.specs.Costs.{naming_cost, opening_cost};
 ghost use Rattle.rpki_relying_party.specs.Lacks.{IsFirstRepeated, WhyNoManifestOf, manifest_checks};
-ghost use Rattle.rpki_relying_party.specs.Memory.{IsCheckMemory};
+ghost use Rattle.rpki_relying_party.specs.Memory.{IsCheckMemory, plain_check};
 ghost use Rattle.rpki_relying_party.specs.Outcome.{IsOutcome};
 ghost use Rattle.rpki_relying_party.specs.Passes.{setting};
 ghost use Rattle.rpki_relying_party.specs.Point.{AreOnce, IsManifestAt};
@@ -25,7 +25,7 @@ ghost use Rattle.rpki_relying_party.specs.declared.cause.Stop.TheVariants as sto
 
 use crate::cause::{Cause, ManifestFault, Stop};
 use crate::copy::Repository;
-use crate::memory::is_check_memory;
+use crate::memory::{is_check_memory, plain_check};
 use crate::pass::Pass;
 use crate::reader::{OPENING, naming_cost, read_file, spend};
 use bytes::Bytes;
@@ -150,13 +150,14 @@ fn find_repeated(
 fn refused_manifest(error: CheckError) -> Stop
     ensures { (IsCheckMemory error × (result ≡ stops.Memory))
         ⊎ ((¬ IsCheckMemory error)
-        × (result ≡ stops.Refused (causes.Manifest (faults.Refused error)))) }
+        × (result ≡ stops.Refused (causes.Manifest (faults.Refused (plain_check error))))) }
 {
     if is_check_memory(&error) {
         drop(error);
         return Stop::Memory;
     }
-    Stop::Refused(Cause::Manifest(ManifestFault::Refused(error)))
+    let fault = ManifestFault::Refused(plain_check(error));
+    Stop::Refused(Cause::Manifest(fault))
 }
 
 // That a manifest is refused which lists this file twice, or that there is too little room for it.

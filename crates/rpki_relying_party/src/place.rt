@@ -2,15 +2,16 @@
 
 ghost use Rattle.std.specs.Prelude.{◌≡◌, ◌*◌, ◌<◌, ◌^◌, length, ◌++◌, IfOk, OnOk, option_map};
 ghost use Rattle.std.specs.List.{flat_map};
-ghost use Rattle.rpki_relying_party.specs.Costs.{blocks_of, waiting_cost};
+ghost use Rattle.rpki_resources.specs.Claim.{added};
+ghost use Rattle.rpki_relying_party.specs.Costs.{blocks_of, claimed_of, waiting_cost};
 ghost use Rattle.rpki_relying_party.specs.Place.{octets_of, part_of, uri_part, ends_of, set_part};
 ghost use Rattle.rpki_relying_party.specs.Place.{cert_part, sets_part, key_of};
 ghost use Rattle.rpki_relying_party.specs.Tells.{earlier};
 
 use bytes::Bytes;
 use rpki_basics::{Rsync, Time};
-use rpki_certs::ResourceCert;
-use rpki_resources::{Block, Blocks, Number};
+use rpki_certs::{Cert, ResourceCert};
+use rpki_resources::{Block, Blocks, Claim, Number, Resources};
 use std::alloc::{AllocError, Global};
 
 /// The certificate of a CA with its validated numbers; until when all the certificates, manifests
@@ -140,11 +141,34 @@ pub(crate) fn count_blocks(ca: &ResourceCert) -> u128
     count_of(ca.as_resources()) + addresses
 }
 
-/// What a place takes that waits: its certificate, which has these octets, its key and its sets.
+// How many blocks a claim has.
+fn count_in<T: Number>(claim: &Resources<T>) -> u128
+    ensures counts { result ≡ length (added claim.now) }
+    ensures fits { result < 2 ^ 64 }
+{
+    match claim.claim() {
+        Claim::Missing => 0,
+        Claim::Inherit => 0,
+        Claim::Explicit(blocks) => count_of(blocks),
+    }
+}
+
+// How many blocks a certificate claims.
+fn count_claimed(cert: &Cert) -> u128
+    ensures counts { result ≡ claimed_of cert.now.certificate }
+    ensures fits { result < 3 * 2 ^ 64 }
+{
+    let addresses = count_in(cert.v4_resources()) + count_in(cert.v6_resources());
+    count_in(cert.as_resources()) + addresses
+}
+
+/// What a place takes that waits: its certificate, which has these octets, with what it claims, its
+/// key and its sets.
 pub(crate) fn cost_of(octets: &Bytes, ca: &ResourceCert) -> u128
     ensures { result ≡ waiting_cost octets.now ca.now }
 {
-    16_384 + 8 * (octets.len() as u128) + 1_024 * count_blocks(ca)
+    let blocks = count_blocks(ca) + count_claimed(ca.cert());
+    16_384 + 8 * (octets.len() as u128) + 1_024 * blocks
 }
 
 /// The earlier of two moments.

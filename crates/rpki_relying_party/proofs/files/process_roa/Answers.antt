@@ -2,15 +2,19 @@ use Rattle.std.proofs.Common.{◌*◌, length, sym, subst, ◌∙◌, true≢fal
 use Rattle.rpki_basics.specs.Moment.{Moment}
 use Rattle.rpki_certs.specs.Cert.{KeptCertificate}
 use Rattle.rpki_routes.specs.Roa.{addresses}
+use Rattle.rpki_routes.specs.Roa.Form.{RoaForm}
+use Rattle.rpki_routes.specs.Roa.Checks.{roa_kind}
 use Rattle.rpki_relying_party.specs.Costs.{payload_cost}
-use Rattle.rpki_relying_party.specs.Memory.{IsCheckMemory}
+use Rattle.rpki_relying_party.specs.Memory.{IsCheckMemory, plain_check}
 use Rattle.rpki_relying_party.specs.Outcome.{Puts}
 use Rattle.rpki_relying_party.specs.Passes.{setting}
 use Rattle.rpki_relying_party.specs.Tells.{NamesPrefixesAlone, origins_said, earlier}
+use Rattle.rpki_relying_party.specs.Under.{SaysOf}
 use Rattle.rpki_relying_party.specs.declared.cause.Cause.TheVariants as causes
 use Rattle.rpki_relying_party.specs.declared.kind.ListedKind.TheVariants as kinds
 use Rattle.rpki_relying_party.proofs.Judging.{ends-with, roa-told, roa-broad, roa-refused}
 use Rattle.rpki_relying_party.proofs.Judging.{payloads-judged, refused-judged, each-ok}
+use Rattle.rpki_relying_party.proofs.Objects.{plain-object}
 use Rattle.rpki_relying_party.proofs.files.process_roa.Goals as goal
 
 pub returns-in-Err : goal.returns-in-Err
@@ -22,9 +26,10 @@ returns-in-Err g c =
     refused-judged s above.ca.now list above.until above.manifest.now c.args.uri c.args.octets
     kinds.Roa c.args.findings.now.said.items c.refuse_object.new.said.items
     c.args.findings.now.children.items c.args.room.now c.refuse_object.result
-    (IsCheckMemory c.in-Err.error) (causes.Object c.in-Err.error)
+    (IsCheckMemory c.in-Err.error) (causes.Object (plain_check c.in-Err.error))
     (λ m. roa-refused s above.ca.now list above.until above.manifest.now c.args.uri c.args.octets
-    (causes.Object c.in-Err.error) (c.in-Err.ensures.first, m))
+    (causes.Object (plain_check c.in-Err.error)) (plain-object roa_kind RoaForm s.digest s.verdict
+    above.ca.now s.now (SaysOf list) c.args.octets c.in-Err.error c.in-Err.ensures.first m))
     c.refuse_object.ensures.memory c.refuse_object.ensures.refused
 
 -- what the certificate claims

@@ -11,4 +11,4 @@ returns-in-Ok-true-clause-said c =
 pub returns-in-Ok-false-clause-said : goal.returns-in-Ok-false-clause-said
 returns-in-Ok-false-clause-said c = done-as (λ (stop : Stop). stop ≡ Memory) c.refuse.result
     (λ e. inr (λ h. true≢false (sym (c.in-Ok-false.ensures.1 h) ∙ c.in-Ok-false.field-0-test), e))
-    c.refuse.ensures
+    (rw c.plain_issuer.ensures at c.refuse.ensures)
