@@ -411,21 +411,29 @@ def same_names(t):
 
 
 def kept_at_ta(t):
-    """The anchor at ta/NAME/FILE counts where there is none at the URI's own place."""
+    """The anchor at ta/NAME/FILE counts: that of the locator's own name."""
     t.files["ta/one/top.cer"] = t.top.certificate() + b"more"
     t.lose(t.top.uri)
     t.tals["two.tal"] = t.tals["one.tal"]
     t.fails(MISSING, "two")
 
 
+def beside(octets_of):
+    """The anchor is at ta/NAME/FILE, and another file at its URI."""
+    def change(t):
+        t.files["ta/one/top.cer"] = t.top.certificate()
+        t.put(t.top.uri, octets_of(t))
+    return change
+
+
 def other_at_ta(t):
-    """Another file is at ta/NAME/FILE: that at the URI goes first."""
+    """Another file is at ta/NAME/FILE: that at the URI is the anchor."""
     t.files["ta/one/top.cer"] = b"no anchor"
 
 
 def several(*octets_of, text=None):
     """A locator with several URIs, one of them of HTTPS. HTTPS first, and else in their order, the
-    first that has a certificate with the locator's key decides."""
+    first that has a good certificate with the locator's key decides."""
     def change(t):
         uris = [f"rsync://{HOST}/ta/1.cer", f"rsync://{HOST}/ta/2.cer", f"https://{HOST}/ta/0.cer"]
         t.tals["one.tal"] = locator(uris, t.top.signer)
@@ -505,7 +513,8 @@ LOCATORS = [
     ("anchors: none, none, good", several(None, None, good)),
     ("anchors: another key, good, expired", several(other, good, expired)),
     ("anchors: zeros, another key, good", several(lambda t: ZEROS, other, good)),
-    ("anchors: expired, good, good", several(expired, good, good, text=EXPIRED)),
+    ("anchors: expired, good, good", several(expired, good, good)),
+    ("anchors: zeros, expired, another key", several(lambda t: ZEROS, expired, other, text=EXPIRED)),
     ("anchors: good, expired, expired", several(good, expired, expired)),
     ("anchors: other keys", several(other, other, other, text=OTHER_KEY)),
     ("two locators, one without an anchor", one_of_two),
@@ -513,6 +522,9 @@ LOCATORS = [
     ("two locators of one anchor", one_twice),
     ("two locators of one name", same_names),
     ("an anchor at ta/NAME/FILE", kept_at_ta), ("another file at ta/NAME/FILE", other_at_ta),
+    ("an anchor at ta/NAME/FILE, zeros at its URI", beside(lambda t: ZEROS)),
+    ("an anchor at ta/NAME/FILE, another key at its URI", beside(other)),
+    ("an anchor at ta/NAME/FILE, an expired one at its URI", beside(expired)),
     uris_of(64), uris_of(65, MANY_URIS),
     located("https://a/../x", "x"), located("https://../x", "../x"), located("https://a/..", "x"),
     located("https://a//x", "a/x"), located("https://a/", "x"), located("rsync://../x/y", "../x/y"),
@@ -743,6 +755,27 @@ def host_of_anchors(t, _):
     h.add("top.cer", h.files["x.cer"])
 
 
+def beside_anchor(t):
+    """A CA whose folder is that of the anchor's URI, and the anchor at ta/NAME/FILE alone."""
+    h = hostile(t, folder=t.top.uri.rsplit("/", 1)[0] + "/")
+    t.files["ta/one/top.cer"] = t.files.pop(path_of(t.top.uri))
+    return h
+
+
+def anchor_of_others(t, _):
+    """At the URI of the anchor a CA has the certificate of a child."""
+    h = beside_anchor(t)
+    below(t, h)
+    h.add("top.cer", h.files["x.cer"])
+
+
+def anchor_of_its_key(t, _):
+    """At the URI of the anchor a CA has the certificate of a child with the anchor's key."""
+    h, manifest = beside_anchor(t), f"{t.top.folder}x.mft"
+    certify(t, h, t.top, make.Claim([PLACE], []), "top.cer", manifest=manifest)
+    t.says(A + C + B, (manifest, f"manifest {GONE}", h.manifest))
+
+
 def siblings(t, count):
     """So many CAs before all others, each with a manifest of zeros."""
     refused = []
@@ -963,6 +996,8 @@ HOSTILE = [
     ("a certificate for the key of a victim", shadow, 1, 1),
     ("a certificate for the key of a victim, with its numbers", held, 300, 8),
     ("a host that is called as the folder of trust anchors", host_of_anchors, 1, 1),
+    ("another certificate at the URI of the anchor", anchor_of_others, 1, 1),
+    ("a certificate with the key of the anchor at its URI", anchor_of_its_key, 1, 1),
     ("siblings with manifests of zeros", siblings, 20, 9),
     ("ROAs below a long list", long_list, 200, 10),
     ("ROAs of no octets", empty_files, 10_000, 50),

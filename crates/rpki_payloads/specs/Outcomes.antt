@@ -49,7 +49,7 @@ IsNamedOutcome s name tal limit a = (a.name ≡ name) × IsOutcome s tal limit a
 -- what the run for a request comes to under the locator with this name
 abbrev pub IsOutcomeUnder : Party → PayloadsRequest → List ℕ → Locator → AnchorOutcome → Type 0
 IsOutcomeUnder party request name tal a =
-    IsNamedOutcome (setting_of party request name tal) name tal party.limit a
+    IsNamedOutcome (setting_of party request name) name tal party.limit a
 
 -- what the run for a request comes to under the locator that this file is
 abbrev pub IsOutcomeOf : Party → PayloadsRequest → File → AnchorOutcome → Type 0

@@ -3,7 +3,6 @@ use Rattle.std.specs.Prelude.{ℕ, List, Result}
 use Rattle.rpki_certs.specs.Verify.{Verdict}
 use Rattle.rpki_cli.specs.declared.verify.relying_party.PayloadsRequest.{PayloadsRequest}
 use Rattle.rpki_sigobj.specs.Verify.{Digester}
-use Rattle.rpki_tal.specs.Tal.{Locator}
 use Rattle.rpki_relying_party.specs.Folders.{FindsIn}
 use Rattle.rpki_relying_party.specs.Setting.{Setting}
 use Rattle.rpki_relying_party.specs.declared.copy.NoFile.{NoFile}
@@ -19,9 +18,9 @@ pub record Party : Type 1 where
 
 -- what a relying party knows of a validation run for this request, under the locator with this
 -- name
-abbrev pub setting_of : Party → PayloadsRequest → List ℕ → Locator → Setting
-setting_of party request name tal = record {
-  finds = FindsIn (party.finds request.copy) name tal;
+abbrev pub setting_of : Party → PayloadsRequest → List ℕ → Setting
+setting_of party request name = record {
+  finds = FindsIn (party.finds request.copy) name;
   now = request.moment;
   digest = party.digest;
   verdict = party.verdict;

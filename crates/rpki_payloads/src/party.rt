@@ -120,7 +120,6 @@ fn run_named<'p, F: Folders, C: Crypto>(
         folders: party.folders,
         folder: request.copy.0,
         name: named.name,
-        locator: &named.locator,
     };
     let pass = Pass {
         copy: &copy,

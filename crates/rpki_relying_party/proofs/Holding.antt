@@ -1,8 +1,10 @@
 -- What is published holds until the earliest end of what leads to it.
 use Rattle.std.proofs.Common.{◌≡◌, inl, inr, ℕ, ◌≤◌, ◌<◌, List, [], ◌∷◌, Bool, true, false, refl}
 use Rattle.std.proofs.Common.{sym, subst, arith}
-use Rattle.std.specs.Prelude.{nat_le, if◌then◌else◌}
-use Rattle.std.proofs.lemmas.Bool.{leb-true, leb-false}
+use Rattle.std.proofs.lemmas.List.Elements.{All-contains, Contains-append_left}
+use Rattle.std.proofs.lemmas.List.Elements.{Contains-append_right}
+use Rattle.std.specs.Prelude.{◌++◌, Contains, nat_le, if◌then◌else◌}
+use Rattle.std.proofs.lemmas.Bool.{leb-true, leb-false, cases_lt}
 use Rattle.rpki_der.specs.declared.mode.Mode.TheVariants.{Der}
 use Rattle.rpki_basics.specs.Moment.{Moment, stamp}
 use Rattle.rpki_basics.specs.declared.limits.ManifestRule.TheVariants.{Any}
@@ -25,7 +27,9 @@ use Rattle.rpki_sigobj.specs.Signed.Kind.{ObjectKind}
 use Rattle.rpki_sigobj.specs.Signed.Process.{validation}
 use Rattle.rpki_sigobj.proofs.Valid.{published-valid, detached-valid}
 use Rattle.rpki_tal.specs.Tal.{Locator}
-use Rattle.rpki_relying_party.specs.Anchors.{IsAnchorOf}
+use Rattle.rpki_tal.specs.Uri.{https_first}
+use Rattle.rpki_relying_party.specs.Anchors.{IsAnchorOf, IsGoodFor, HasAnchor, Lacks, candidates}
+use Rattle.rpki_relying_party.specs.Anchors.{HasBegun, HaveBegun}
 use Rattle.rpki_relying_party.specs.Paths.{Leads}
 use Rattle.rpki_relying_party.specs.Point.{Point, IsPointIn, HasGood, IsUnrevoked}
 use Rattle.rpki_relying_party.specs.Published.{IsPointOf, PublishedFile, IsPublished, held_by}
@@ -38,11 +42,18 @@ use Rattle.rpki_relying_party.specs.declared.kind.ListedKind.TheVariants as kind
 use Rattle.rpki_relying_party.specs.declared.payload.Held.{Held}
 use Rattle.rpki_relying_party.specs.declared.payload.Payload.{Payload}
 use Rattle.rpki_relying_party.specs.declared.place.Place.{Place}
+use Rattle.rpki_relying_party.proofs.Lists.{all-of, contains-first}
 
 -- ---- the earlier of two moments
 
 le-trans : (a b c : ℕ) → a ≤ b → b ≤ c → a ≤ c
 le-trans a b c h g = omega (arith, h, g)
+
+not-after : (a b : ℕ) → (¬ (a < b)) → b ≤ a
+not-after a b h = elim (cases_lt a b) [
+  | inl l ↦ absurd (h l)
+  | inr l ↦ l
+]
 
 le-below : (a b c : ℕ) → a ≤ c → c < b → a ≤ b
 le-below a b c h g = omega (arith, h, g)
@@ -332,26 +343,101 @@ anchor-valid-still s t later c h l =
       },
     )
 
--- A trust anchor is one until its certificate ends.
-pub anchor-still : (s : Setting) (tal : Locator) (v : Validated) (t : Moment)
-    → IsAnchorOf s tal v → stamp s.now ≤ stamp t
-    → stamp t ≤ stamp v.cert.certificate.tbs.validity.not_after → IsAnchorOf (at_moment s t) tal v
-unfolding HasClaimed
-anchor-still s tal v t h later l = (
-  h.0,
-  (
-    h.1.0,
-    h.1.1,
+module _ (s : Setting) (t : Moment) (later : stamp s.now ≤ stamp t) (key : List ℕ) where
+  -- A good certificate of a trust anchor is one until it ends.
+  anchor-good-still : (v : Validated) (text : List ℕ)
+      → stamp t ≤ stamp v.cert.certificate.tbs.validity.not_after → HasAnchor s key v text
+      → HasAnchor (at_moment s t) key v text
+  unfolding HasClaimed
+  anchor-good-still v text l h = (
+    h.0,
+    h.1,
     record {
-      cert = h.1.2.cert;
-      rest = h.1.2.rest;
-      front = h.1.2.front;
+      cert = h.2.cert;
+      rest = h.2.rest;
+      front = h.2.front;
       holds = (
-        anchor-valid-still s t later h.1.2.cert (h.1.2.holds.0)
-            (subst (λ (k : KeptCertificate). stamp t ≤ stamp k.certificate.tbs.validity.not_after)
-            (h.1.2.holds.1.0) l),
-        h.1.2.holds.1,
+        (
+          h.2.holds.0.0,
+          anchor-valid-still s t later h.2.cert (h.2.holds.0.1)
+              (subst (λ (k : KeptCertificate).
+              stamp t ≤ stamp k.certificate.tbs.validity.not_after) (h.2.holds.1.0) l),
+        ),
+        h.2.holds.1,
       );
     },
-  ),
-)
+  )
+
+  -- One that has begun and is good later is good now.
+  good-before : (c : Certificate) → (¬ (stamp s.now < stamp c.tbs.validity.not_before))
+      → IsGoodFor (at_moment s t) key c → IsGoodFor s key c
+  good-before c begun h =
+      let v = (anchor-valid s.verdict c t).0 (h.1) in
+      (
+        h.0,
+        (anchor-valid s.verdict c s.now).1 (
+          v.0,
+          record {
+            in_time = (
+              not-after (stamp s.now) (stamp c.tbs.validity.not_before) begun,
+              le-trans (stamp s.now) (stamp t) (stamp c.tbs.validity.not_after) later
+                  (v.1.in_time.1),
+            );
+            signed = v.1.signed;
+          },
+        ),
+      )
+
+  -- What has begun and is not good is not good later.
+  lacks-still : (text : List ℕ) → HasBegun s key text → Lacks s.finds (IsGoodFor s key) text
+      → Lacks s.finds (IsGoodFor (at_moment s t) key) text
+  lacks-still text begun (inl none) = inl none
+  lacks-still text begun (inr other) = inr (
+    other.0,
+    other.1,
+    λ h. other.2 (record {
+      cert = h.cert;
+      rest = h.rest;
+      front = h.front;
+      holds = good-before h.cert (λ l. begun (other.0) (other.1) (record {
+        cert = h.cert;
+        rest = h.rest;
+        front = h.front;
+        holds = (h.holds.0, l);
+      })) h.holds;
+    }),
+  )
+
+module _ (s : Setting) (tal : Locator) (v : Validated) (t : Moment) (h : IsAnchorOf s tal v)
+    (later : stamp s.now ≤ stamp t)
+    (l : stamp t ≤ stamp v.cert.certificate.tbs.validity.not_after) where
+  here-still : HasAnchor (at_moment s t) tal.key v h.1.text
+  here-still = anchor-good-still s t later tal.key v h.1.text l h.1.here
+
+  -- A trust anchor is a good one of its locator until its certificate ends,
+  pub anchor-still-good : (text : List ℕ) × Contains (candidates (https_first tal.uris)) text
+      × HasAnchor (at_moment s t) tal.key v text
+  anchor-still-good = (
+    h.1.text,
+    subst (λ (x : List (List ℕ)). Contains x h.1.text) (sym h.1.order)
+        (Contains-append_right h.1.before (h.1.text ∷ h.1.after) h.1.text
+        (contains-first h.1.text h.1.after)),
+    here-still,
+  )
+
+  -- and the first, if the others have begun.
+  pub anchor-still : HaveBegun s tal → IsAnchorOf (at_moment s t) tal v
+  anchor-still begun = (
+    h.0,
+    record {
+      before = h.1.before;
+      text = h.1.text;
+      after = h.1.after;
+      order = h.1.order;
+      others = all-of (Lacks s.finds (IsGoodFor (at_moment s t) tal.key)) h.1.before (λ x c.
+          lacks-still s t later tal.key x (begun x (subst (λ (y : List (List ℕ)). Contains y x)
+          (sym h.1.order) (Contains-append_left h.1.before (h.1.text ∷ h.1.after) x c)))
+          (All-contains (Lacks s.finds (IsGoodFor s tal.key)) h.1.before x h.1.others c));
+      here = here-still;
+    },
+  )

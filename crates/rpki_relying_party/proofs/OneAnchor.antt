@@ -6,10 +6,9 @@ use Rattle.rpki_certs.specs.Cert.{Certificate, KeptCertificate}
 use Rattle.rpki_certs.specs.Issuer.{BeginsWithCert, in_der}
 use Rattle.rpki_certs.specs.Validate.{Validated, IsAnchorOf as HasClaimed}
 use Rattle.rpki_tal.specs.Tal.{Locator}
-use Rattle.rpki_tal.specs.Uri.{uri_text, https_first}
-use Rattle.rpki_tal.specs.declared.uri.TalUri.{TalUri}
-use Rattle.rpki_relying_party.specs.Anchors.{FindsFor, LacksFor, HasKeyAt, LacksKeyAt}
-use Rattle.rpki_relying_party.specs.Anchors.{IsFirstWithKey, IsAnchorOf}
+use Rattle.rpki_tal.specs.Uri.{https_first}
+use Rattle.rpki_relying_party.specs.Anchors.{FindsFor, LacksFor, Lacks, IsGoodFor, HasAnchor}
+use Rattle.rpki_relying_party.specs.Anchors.{IsFirst, IsAnchorOf, candidates}
 use Rattle.rpki_relying_party.specs.Runs.{IsStartOf, start_place}
 use Rattle.rpki_relying_party.specs.Same.{FindsOne}
 use Rattle.rpki_relying_party.specs.Setting.{Setting}
@@ -32,62 +31,74 @@ one-claimed k v w h g =
 
 module _ (s : Setting) (one : FindsOne s) where
   -- no file is found where one is
-  lacks : (uri : TalUri) (octets : List ℕ) (why : NoFile) → FindsFor s.finds uri (Ok octets)
-      → LacksFor s.finds why uri → ⊥
-  lacks uri octets why h (inl none) = found-none s one (uri_text uri) octets why (h.0) none
-  lacks uri octets why h (inr huge) = omega (
+  lacks : (text octets : List ℕ) (why : NoFile) → FindsFor s.finds text (Ok octets)
+      → LacksFor s.finds why text → ⊥
+  lacks text octets why h (inl none) = found-none s one text octets why (h.0) none
+  lacks text octets why h (inr huge) = omega (
     arith,
     h.1,
     huge.1.2,
-    ap (λ (o : List ℕ). length o) (found-one s one (uri_text uri) octets (huge.1.0) (h.0)
-        (huge.1.1)),
+    ap (λ (o : List ℕ). length o)
+        (found-one s one text octets (huge.1.0) (h.0) (huge.1.1)),
   )
 
   module _ (key : List ℕ) where
-    -- a certificate with the key is found, or it is not
-    key-lacks : (uri : TalUri) (octets : List ℕ) → HasKeyAt s.finds key uri octets
-        → LacksKeyAt s.finds key uri → ⊥
-    key-lacks uri octets h (inl none) = lacks uri octets (none.0) (h.0) (none.1)
-    key-lacks uri octets h (inr other) = other.2 (subst (λ (o : List ℕ).
-        BeginsWithCert o (λ c. c.tbs.key ≡ key))
-        (found-one s one (uri_text uri) octets (other.0) (h.0.0) (other.1.0)) (h.1))
+    -- a good certificate is found, or none is
+    good-lacks : (v : Validated) (text : List ℕ) → HasAnchor s key v text
+        → Lacks s.finds (IsGoodFor s key) text → ⊥
+    good-lacks v text h (inl none) = lacks text (h.0) (none.0) (h.1) (none.1)
+    good-lacks v text h (inr other) = other.2 (subst (λ (o : List ℕ).
+        BeginsWithCert o (IsGoodFor s key))
+        (found-one s one text (h.0) (other.0) (h.1.0) (other.1.0)) (record {
+          cert = h.2.cert;
+          rest = h.2.rest;
+          front = h.2.front;
+          holds = h.2.holds.0;
+        }))
 
-    module _ (uris : List TalUri) (a : List ℕ) where
-      -- the first for which it is found is not before another such first
-      not-before : (h : IsFirstWithKey s.finds key uris a) (all more : List TalUri)
-          → all ≡ h.before ++ h.uri ∷ more → All (LacksKeyAt s.finds key) all → ⊥
-      not-before h all more e lacks = key-lacks h.uri a h.here
-          (All-contains (LacksKeyAt s.finds key) all h.uri lacks
-          (subst (λ (l : List TalUri). Contains l h.uri) (sym e)
-          (Contains-append_right h.before (h.uri ∷ more) h.uri (contains-first h.uri more))))
+    -- one text has one
+    one-here : (v w : Validated) (text : List ℕ) → HasAnchor s key v text
+        → HasAnchor s key w text → v ≡ w
+    one-here v w text h g =
+        let octets = found-one s one text (g.0) (h.0) (g.1.0) (h.1.0) in
+        let b = subst (λ (o : List ℕ). BeginsWithCert o (λ c. HasClaimed (in_der c) w)) octets
+        (record {
+          cert = g.2.cert;
+          rest = g.2.rest;
+          front = g.2.front;
+          holds = g.2.holds.1;
+        }) in
+        let same = (h.2.front.only b.cert b.rest b.front.found).0 in
+        one-claimed (in_der h.2.cert) v w (h.2.holds.1)
+        (subst (λ (c : Certificate). HasClaimed (in_der c) w) same b.holds)
 
-    one-first : (uris : List TalUri) (a b : List ℕ) → IsFirstWithKey s.finds key uris a
-        → IsFirstWithKey s.finds key uris b → a ≡ b
-    one-first uris a b h g =
-        elim (cuts h.before h.after g.before g.after h.uri g.uri (sym h.order ∙ g.order)) [
-          | inl same ↦ found-one s one (uri_text g.uri) a b
-              (subst (λ (u : TalUri). s.finds (uri_text u) (Ok a)) (same.1) (h.here.0.0))
-              (g.here.0.0)
+    module _ (texts : List (List ℕ)) (v : Validated) where
+      -- the first with a good one is not before another such first
+      not-before : (h : IsFirst (HasAnchor s key v) (Lacks s.finds (IsGoodFor s key)) texts)
+          (all more : List (List ℕ)) → all ≡ h.before ++ h.text ∷ more
+          → All (Lacks s.finds (IsGoodFor s key)) all → ⊥
+      not-before h all more e lacks = good-lacks v h.text h.here
+          (All-contains (Lacks s.finds (IsGoodFor s key)) all h.text lacks
+          (subst (λ (l : List (List ℕ)). Contains l h.text) (sym e)
+          (Contains-append_right h.before (h.text ∷ more) h.text (contains-first h.text more))))
+
+    one-first : (texts : List (List ℕ)) (v w : Validated)
+        → IsFirst (HasAnchor s key v) (Lacks s.finds (IsGoodFor s key)) texts
+        → IsFirst (HasAnchor s key w) (Lacks s.finds (IsGoodFor s key)) texts → v ≡ w
+    one-first texts v w h g =
+        elim (cuts h.before h.after g.before g.after h.text g.text (sym h.order ∙ g.order)) [
+          | inl same ↦ one-here v w g.text
+              (subst (λ (t : List ℕ). HasAnchor s key v t) (same.1) h.here) g.here
           | inr apart ↦ elim apart [
-            | inl later ↦ absurd (not-before uris a h g.before (later.0) (later.1) g.others)
-            | inr sooner ↦ absurd (not-before uris b g h.before (sooner.0) (sooner.1) h.others)
+            | inl later ↦ absurd (not-before texts v h g.before (later.0) (later.1) g.others)
+            | inr sooner ↦ absurd (not-before texts w g h.before (sooner.0) (sooner.1) h.others)
           ]
         ]
 
   module _ (tal : Locator) where
     one-anchor : (v w : Validated) → IsAnchorOf s tal v → IsAnchorOf s tal w → v ≡ w
     one-anchor v w h g =
-        let octets = one-first tal.key (https_first tal.uris) (g.1.0) (h.1.0) (g.1.1) (h.1.1) in
-        let b = subst (λ (o : List ℕ). BeginsWithCert o (λ c. HasClaimed (in_der c) w)) octets
-        (record {
-          cert = g.1.2.cert;
-          rest = g.1.2.rest;
-          front = g.1.2.front;
-          holds = g.1.2.holds.1;
-        }) in
-        let same = (h.1.2.front.only b.cert b.rest b.front.found).0 in
-        one-claimed (in_der h.1.2.cert) v w (h.1.2.holds.1)
-        (subst (λ (c : Certificate). HasClaimed (in_der c) w) same b.holds)
+        one-first tal.key (candidates (https_first tal.uris)) v w (h.1) (g.1)
 
     pub one-start : (p q : Place) → IsStartOf s tal p → IsStartOf s tal q → p ≡ q
     one-start p q h g = h.2 ∙ ap (λ (v : Validated). start_place v)

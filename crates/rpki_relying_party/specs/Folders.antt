@@ -1,11 +1,9 @@
 -- What reads of a folder may find, as a copy of the repositories: octets, or why there is no file.
-use Rattle.std.specs.Prelude.{◌≡◌, ◌⊎◌, ◌<◌, ◌≤◌, ℕ, List, ◌++◌, codes, Result, Err, Contains}
-use Rattle.std.specs.Prelude.{map, length}
-use Rattle.std.specs.List.{slice_split}
+use Rattle.std.specs.Prelude.{◌≡◌, ◌⊎◌, ◌<◌, ◌≤◌, ℕ, List, ◌++◌, codes, Result, Err, Bool}
+use Rattle.std.specs.Prelude.{◌==◌, if◌then◌else◌, length}
+use Rattle.std.specs.List.{slice_split, starts_with}
 use Rattle.std.specs.Fs.{metadata_len, file_type, IsFile, IsDir, IsSymlink}
 use Rattle.std.specs.declared.fs.attrs.Metadata.{Metadata}
-use Rattle.rpki_tal.specs.Tal.{Locator}
-use Rattle.rpki_tal.specs.Uri.{uri_text}
 use Rattle.rpki_relying_party.specs.Names.{IsBelow, is_slash, path_of, anchor_name}
 use Rattle.rpki_relying_party.specs.declared.copy.NoFile.{NoFile}
 use Rattle.rpki_relying_party.specs.declared.copy.NoFile.TheVariants.{Missing, NotRegular, TooLarge}
@@ -20,26 +18,20 @@ abbrev pub FindsBelow : (List ℕ → Result (List ℕ) NoFile → Type 0) → L
 FindsBelow finds name found =
     (IsBelow name × finds name found) ⊎ ((¬ IsBelow name) × (found ≡ Err Missing))
 
--- What may be found for a URI of the locator with this name: the file at the host and the path of
--- the URI comes first, whatever it is, and where that is missing, the file `ta/NAME/LAST`.
-abbrev pub FindsAnchor : (List ℕ → Result (List ℕ) NoFile → Type 0) → List ℕ → List ℕ
-    → Result (List ℕ) NoFile → Type 0
-FindsAnchor finds name uri found =
-    (FindsBelow finds (path_of uri) found × (¬ (found ≡ Err Missing)))
-    ⊎ (FindsBelow finds (path_of uri) (Err Missing)
-    × FindsBelow finds (anchor_name name uri) found)
+-- it is asked for what is kept as the certificate of a trust anchor
+abbrev pub is_kept : List ℕ → Bool
+is_kept uri = starts_with (λ a b. a == b) uri (codes "ta:")
 
--- this is the text of a URI of the locator
-abbrev pub IsUriOf : Locator → List ℕ → Type 0
-IsUriOf tal uri = Contains (map uri_text tal.uris) uri
+-- The name of the file of a URI, under the locator with this name: the host and the path of the URI;
+-- after `ta:` it is `ta/NAME/LAST`, where NAME is the name of the locator, and LAST what stands after
+-- the last slash of the URI.
+abbrev pub file_name : List ℕ → List ℕ → List ℕ
+file_name name uri = if is_kept uri then anchor_name name uri else path_of uri
 
--- What may be found for a URI, under the locator with this name: for a URI of the locator what was
--- said above, and for any other the file at its host and its path.
-abbrev pub FindsIn : (List ℕ → Result (List ℕ) NoFile → Type 0) → List ℕ → Locator → List ℕ
+-- What may be found for a URI, under the locator with this name.
+abbrev pub FindsIn : (List ℕ → Result (List ℕ) NoFile → Type 0) → List ℕ → List ℕ
     → Result (List ℕ) NoFile → Type 0
-FindsIn finds name tal uri found =
-    (IsUriOf tal uri × FindsAnchor finds name uri found)
-    ⊎ ((¬ IsUriOf tal uri) × FindsBelow finds (path_of uri) found)
+FindsIn finds name uri found = FindsBelow finds (file_name name uri) found
 
 -- ---- folders of the system
 

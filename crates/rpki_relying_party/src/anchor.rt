@@ -1,12 +1,12 @@
 //! Trust anchors.
 
-ghost use Rattle.std.specs.Prelude.{◌≡◌, ◌≢◌, ◌≤◌, ◌↔◌, length, IfOk, IsTrue, MatchResult, Ok, Some};
+ghost use Rattle.std.specs.Prelude.{◌≡◌, ◌↔◌, ◌∷◌, [], IfOk, IsTrue, MatchResult, Ok, Some};
 ghost use Rattle.rpki_certs.specs.Issuer.{BeginsWithCert, IsAnchored};
-ghost use Rattle.rpki_relying_party.specs.Anchors.{IsAnchorOf, FindsFor, WhyNoAnchor};
-ghost use Rattle.rpki_relying_party.specs.Anchors.{IsFirstWithKey, WhyNoKey};
-ghost use Rattle.rpki_relying_party.specs.Anchors.{IsRefusalOf, anchor_fault_text, most_uris};
+ghost use Rattle.rpki_relying_party.specs.Anchors.{IsAnchorOf, FindsFor, WhyNoAnchor, HasKey};
+ghost use Rattle.rpki_relying_party.specs.Anchors.{IsJudged, IsTried, IsRefusalOf, first_fault};
+ghost use Rattle.rpki_relying_party.specs.Anchors.{candidates, candidates_at, kept_text};
+ghost use Rattle.rpki_relying_party.specs.Anchors.{anchor_fault_text};
 ghost use Rattle.rpki_relying_party.specs.Passes.{setting};
-ghost use Rattle.rpki_relying_party.specs.declared.copy.NoFile.{NoFile};
 ghost use Rattle.rpki_tal.specs.Uri.{https_first, uri_text};
 
 use crate::copy::{Fetched, NoFile, Repository};
@@ -33,7 +33,7 @@ pub enum AnchorFault {
     NoFile(NoFile),
     /// The copy has files for its URIs, but no certificate with its key.
     OtherKey,
-    /// The first certificate with its key is no good one of a trust anchor.
+    /// No certificate with its key is a good one of a trust anchor; this is why the first is not.
     Refused(IssuerError),
     /// No memory was to be had.
     Memory,
@@ -60,15 +60,15 @@ impl fmt::Display for AnchorFault {
 
 impl Error for AnchorFault {}
 
-// The octets that the copy has for a URI, or why there is no file.
-fn read_uri<R: Repository>(
+// The octets that the copy has for a text, or why there is no file.
+fn read_text<R: Repository>(
     alloc: Global,
     copy: &R,
-    uri: &TalUri,
+    text: &[u8],
 ) -> Result<Result<Bytes, NoFile>, AllocError>
-    ensures { IfOk result (FindsFor (R.finds copy.now) uri.now) }
+    ensures { IfOk result (FindsFor (R.finds copy.now) text.now) }
 {
-    Ok(match copy.read(alloc, uri.as_str().as_bytes(), u64::MAX)? {
+    Ok(match copy.read(alloc, text, u64::MAX)? {
         Fetched::File(octets) => Ok(octets),
         Fetched::NoFile(why) => Err(why),
         Fetched::Larger => Err(NoFile::TooLarge),
@@ -85,7 +85,7 @@ fn has_key(cert: &Cert, tal: &Tal) -> bool
 // Whether octets begin with a certificate, in DER, that has the key of a locator.
 fn begins_with_key(alloc: Global, octets: &Bytes, tal: &Tal) -> Result<bool, AllocError>
     ensures { IfOk result (λ is. IsTrue is
-        ↔ BeginsWithCert octets.now (λ c. c.tbs.key ≡ tal.now.key)) }
+        ↔ BeginsWithCert octets.now (HasKey tal.now.key)) }
 {
     match Cert::decode(alloc, octets.clone()?) {
         Err(DecodeError::Memory) => Err(AllocError),
@@ -102,69 +102,26 @@ fn begins_with_key(alloc: Global, octets: &Bytes, tal: &Tal) -> Result<bool, All
     }
 }
 
-// Of two reasons the first that says more than that the copy has no file.
-fn first_reason(before: NoFile, why: NoFile) -> NoFile
-    ensures first { before ≡ NoFile.Missing → result ≡ why }
-    ensures later { before ≢ NoFile.Missing → result ≡ before }
+// Of two faults the first, unless the other says more: that there is a file says more than that
+// there is none, and that there is a certificate with the key says most.
+fn first_fault(before: AnchorFault, here: AnchorFault) -> AnchorFault
+    ensures { result ≡ first_fault before here }
 {
-    if before == NoFile::Missing {
-        why
-    } else {
-        before
-    }
-}
-
-// The octets of the first URI of a locator for which a certificate with its key is found, or why
-// there is none. Each URI up to it is read once.
-fn octets_in_order<R: Repository>(alloc: Global, copy: &R, tal: &Tal) -> Result<Bytes, AnchorFault>
-    ensures { MatchResult result (IsFirstWithKey (R.finds copy.now) tal.now.key tal.now.uris)
-        (WhyNoKey (R.finds copy.now) tal.now.key tal.now.uris) }
-{
-    let mut are_missing = true;
-    let mut reason = NoFile::Missing;
-    for uri in tal.uris() {
-        match read_uri(alloc, copy, uri) {
-            Err(_) => return Err(AnchorFault::Memory),
-            Ok(Err(why)) => reason = first_reason(reason, why),
-            Ok(Ok(octets)) => {
-                are_missing = false;
-                match begins_with_key(alloc, &octets, tal) {
-                    Err(_) => {
-                        drop(octets);
-                        return Err(AnchorFault::Memory);
-                    }
-                    Ok(true) => return Ok(octets),
-                    Ok(false) => drop(octets),
-                }
-            }
+    match before {
+        AnchorFault::NoFile(NoFile::Missing) => here,
+        AnchorFault::NoFile(why) => match here {
+            AnchorFault::NoFile(_) => AnchorFault::NoFile(why),
+            other => other,
+        },
+        AnchorFault::OtherKey => match here {
+            AnchorFault::NoFile(_) => AnchorFault::OtherKey,
+            other => other,
+        },
+        AnchorFault::Refused(error) => {
+            drop(here);
+            AnchorFault::Refused(error)
         }
-    }
-    if are_missing {
-        Err(AnchorFault::NoFile(reason))
-    } else {
-        Err(AnchorFault::OtherKey)
-    }
-}
-
-// The same in the order in which the URIs of a locator are tried, HTTPS first.
-fn anchor_octets<R: Repository>(alloc: Global, copy: &R, tal: &Tal) -> Result<Bytes, AnchorFault>
-    ensures { MatchResult result
-        (IsFirstWithKey (R.finds copy.now) tal.now.key (https_first tal.now.uris))
-        (WhyNoKey (R.finds copy.now) tal.now.key (https_first tal.now.uris)) }
-{
-    let Ok(mut ordered) = tal.clone() else {
-        return Err(AnchorFault::Memory);
-    };
-    match ordered.prefer_https() {
-        Err(_) => {
-            drop(ordered);
-            Err(AnchorFault::Memory)
-        }
-        Ok(()) => {
-            let found = octets_in_order(alloc, copy, &ordered);
-            drop(ordered);
-            found
-        }
+        AnchorFault::TooManyUris | AnchorFault::Memory => here,
     }
 }
 
@@ -188,39 +145,123 @@ fn anchor_in<C: Crypto>(
 }
 
 // Why a certificate is that of no trust anchor, unless memory ran out.
-fn refused(error: IssuerError) -> AnchorFault
-    ensures { IsRefusalOf error result }
+fn refused(error: IssuerError) -> Result<AnchorFault, AllocError>
+    ensures { IfOk result (IsRefusalOf error) }
 {
     if is_issuer_memory(&error) {
         drop(error);
-        return AnchorFault::Memory;
+        return Err(AllocError);
     }
-    AnchorFault::Refused(error)
+    Ok(AnchorFault::Refused(error))
 }
 
-// The trust anchor of a locator that has few URIs, or why there is none.
-fn find_anchor<R: Repository, C: Crypto>(
+// The trust anchor of a locator, or why there is none.
+type Anchor = Result<ResourceCert, AnchorFault>;
+
+// The trust anchor of a locator, where it is a good certificate at the front of these octets.
+fn judge<R: Repository, C: Crypto>(
     alloc: Global,
     pass: &Pass<'_, R, C>,
     tal: &Tal,
-) -> Result<ResourceCert, AnchorFault>
-    requires { length tal.now.uris ≤ most_uris }
-    ensures { MatchResult result
-        (IsAnchorOf (setting R.finds C.digest_of C.is_signed pass.now) tal.now)
-        (WhyNoAnchor (setting R.finds C.digest_of C.is_signed pass.now) tal.now) }
+    octets: Bytes,
+) -> Result<Anchor, AllocError>
+    ensures { IfOk result (IsJudged
+        (setting R.finds C.digest_of C.is_signed pass.now) tal.now.key octets) }
 {
-    match anchor_octets(alloc, pass.copy, tal) {
-        Err(fault) => Err(fault),
-        Ok(octets) => match anchor_in(alloc, octets, pass.crypto, pass.moment) {
-            Err(error) => Err(refused(error)),
-            Ok(anchor) => Ok(anchor),
+    if !begins_with_key(alloc, &octets, tal)? {
+        drop(octets);
+        return Ok(Err(AnchorFault::OtherKey));
+    }
+    match anchor_in(alloc, octets, pass.crypto, pass.moment) {
+        Err(error) => Ok(Err(refused(error)?)),
+        Ok(anchor) => Ok(Ok(anchor)),
+    }
+}
+
+// The same, where it is what the copy has for this text.
+fn try_text<R: Repository, C: Crypto>(
+    alloc: Global,
+    pass: &Pass<'_, R, C>,
+    tal: &Tal,
+    text: &[u8],
+) -> Result<Anchor, AllocError>
+    ensures { IfOk result (IsTried
+        (setting R.finds C.digest_of C.is_signed pass.now) tal.now.key (text.now ∷ [])) }
+{
+    match read_text(alloc, pass.copy, text)? {
+        Err(why) => Ok(Err(AnchorFault::NoFile(why))),
+        Ok(octets) => judge(alloc, pass, tal, octets),
+    }
+}
+
+// What a copy is asked for where it keeps the certificate of a trust anchor.
+fn kept_text(alloc: Global, uri: &TalUri) -> Result<Vec<u8>, AllocError>
+    ensures { IfOk result (λ text. text.items ≡ kept_text (uri_text uri.now)) }
+{
+    let mut text = Vec::from_slice(alloc, b"ta:")?;
+    text.extend_from_slice(uri.as_str().as_bytes())?;
+    Ok(text)
+}
+
+// The same of the candidates of this URI.
+fn try_uri<R: Repository, C: Crypto>(
+    alloc: Global,
+    pass: &Pass<'_, R, C>,
+    tal: &Tal,
+    uri: &TalUri,
+) -> Result<Anchor, AllocError>
+    ensures { IfOk result (IsTried
+        (setting R.finds C.digest_of C.is_signed pass.now) tal.now.key (candidates_at uri.now)) }
+{
+    let kept = kept_text(alloc, uri)?;
+    match try_text(alloc, pass, tal, uri.as_str().as_bytes())? {
+        Ok(anchor) => Ok(Ok(anchor)),
+        Err(fault) => match try_text(alloc, pass, tal, &kept)? {
+            Ok(anchor) => Ok(Ok(anchor)),
+            Err(here) => Ok(Err(first_fault(fault, here))),
         },
     }
 }
 
-/// The trust anchor of a locator: of its URIs, HTTPS first, the first for which a certificate with
-/// the locator's key is found decides, and this certificate is good (RFC 8630, section 3). Each URI
-/// is read once at most. A locator with more than 64 URIs is refused.
+// The same of those of all URIs of the locator, as they stand.
+fn try_in_order<R: Repository, C: Crypto>(
+    alloc: Global,
+    pass: &Pass<'_, R, C>,
+    tal: &Tal,
+) -> Result<Anchor, AllocError>
+    ensures { IfOk result (IsTried (setting R.finds C.digest_of C.is_signed pass.now) tal.now.key
+        (candidates tal.now.uris)) }
+{
+    let mut fault = AnchorFault::NoFile(NoFile::Missing);
+    for uri in tal.uris() {
+        match try_uri(alloc, pass, tal, uri)? {
+            Ok(anchor) => return Ok(Ok(anchor)),
+            Err(here) => fault = first_fault(fault, here),
+        }
+    }
+    Ok(Err(fault))
+}
+
+// The same in the order in which the URIs are tried, HTTPS first.
+fn try_all<R: Repository, C: Crypto>(
+    alloc: Global,
+    pass: &Pass<'_, R, C>,
+    tal: &Tal,
+) -> Result<Anchor, AllocError>
+    ensures { IfOk result (IsTried (setting R.finds C.digest_of C.is_signed pass.now) tal.now.key
+        (candidates (https_first tal.now.uris))) }
+{
+    let mut ordered = tal.clone()?;
+    ordered.prefer_https()?;
+    try_in_order(alloc, pass, &ordered)
+}
+
+/// The trust anchor of a locator: the first good certificate among the candidates of its URIs, HTTPS
+/// first. For each URI these are the file of the URI itself, and the one that the copy keeps as that
+/// of the trust anchor. A certificate is good if it has the locator's key and is valid as that of a
+/// trust anchor, which it signed itself (RFC 8630, section 3). So nobody but the holder of the key
+/// decides what the trust anchor is, whoever else has a file at its URI. Each candidate is read once
+/// at most. A locator with more than 64 URIs is refused.
 pub fn anchor_of<R: Repository, C: Crypto>(
     alloc: Global,
     pass: &Pass<'_, R, C>,
@@ -233,5 +274,8 @@ pub fn anchor_of<R: Repository, C: Crypto>(
     if tal.uris().len() > MOST_URIS {
         return Err(AnchorFault::TooManyUris);
     }
-    find_anchor(alloc, pass, tal)
+    match try_all(alloc, pass, tal) {
+        Err(_) => Err(AnchorFault::Memory),
+        Ok(anchor) => anchor,
+    }
 }

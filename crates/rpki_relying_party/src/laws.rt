@@ -5,7 +5,9 @@ ghost use Rattle.std.specs.List.{AllZip};
 ghost use Rattle.rpki_basics.specs.Moment.{Moment, stamp};
 ghost use Rattle.rpki_certs.specs.Validate.{Validated};
 ghost use Rattle.rpki_tal.specs.Tal.{Locator};
-ghost use Rattle.rpki_relying_party.specs.Anchors.{IsAnchorOf};
+ghost use Rattle.rpki_tal.specs.Uri.{https_first};
+ghost use Rattle.rpki_relying_party.specs.Anchors.{IsAnchorOf, HasAnchor, HaveBegun};
+ghost use Rattle.rpki_relying_party.specs.Anchors.{candidates};
 ghost use Rattle.rpki_relying_party.specs.Costs.{PlaceCosts, PlaceExceeds};
 ghost use Rattle.rpki_relying_party.specs.Found.{SaysLike};
 ghost use Rattle.rpki_relying_party.specs.Passes.{setting};
@@ -131,12 +133,21 @@ pub fn payloads_hold_now<R: Repository, C: Crypto>(_pass: &Pass<'_, R, C>)
         → stamp _pass.now.moment ≤ stamp h.until }
 {}
 
-/// A trust anchor of a locator is one at each moment from now until its certificate ends, where the
-/// copy stays the same.
+/// A trust anchor of a locator is a good one at each moment from now until its certificate ends, where
+/// the copy stays the same. It is the locator's trust anchor then, unless the copy has a certificate
+/// with its key that begins to be valid only later.
 pub fn anchors_hold<R: Repository, C: Crypto>(_pass: &Pass<'_, R, C>)
-    ensures { (tal : Locator) (v : Validated) (t : Moment)
+    ensures good { (tal : Locator) (v : Validated) (t : Moment)
         → IsAnchorOf (setting R.finds C.digest_of C.is_signed _pass.now) tal v
         → stamp _pass.now.moment ≤ stamp t
         → stamp t ≤ stamp v.cert.certificate.tbs.validity.not_after
+        → (text : List ℕ) × Contains (candidates (https_first tal.uris)) text
+        × HasAnchor (at_moment (setting R.finds C.digest_of C.is_signed _pass.now) t) tal.key v
+        text }
+    ensures first { (tal : Locator) (v : Validated) (t : Moment)
+        → IsAnchorOf (setting R.finds C.digest_of C.is_signed _pass.now) tal v
+        → stamp _pass.now.moment ≤ stamp t
+        → stamp t ≤ stamp v.cert.certificate.tbs.validity.not_after
+        → HaveBegun (setting R.finds C.digest_of C.is_signed _pass.now) tal
         → IsAnchorOf (at_moment (setting R.finds C.digest_of C.is_signed _pass.now) t) tal v }
 {}

@@ -1,16 +1,9 @@
 //! What a folder has for URIs, row by row.
 
 use super::files::Files;
-use rpki_der::Counted;
 use rpki_relying_party::{Fetched, FolderCopy, NoFile, Repository, is_below, locator_name};
-use rpki_tal::{ReadError, Tal};
 use rpki_testing::Fail;
 use std::alloc::{AllocError, Global};
-
-/// The locator of a trust anchor.
-const LOCATOR: &[u8] = b"\
-    rsync://h/ta/t.cer\nhttps://h/ta/s.cer\nrsync://h/ta/link.cer\n\n\
-    MBowDQYJKoZIhvcNAQEBBQADCQAAAAAAAAAAAQ==\n";
 
 /// The names of files, and what they hold or why they are not read.
 static FILES: [(&str, Result<&[u8], NoFile>); 11] = [
@@ -28,19 +21,20 @@ static FILES: [(&str, Result<&[u8], NoFile>); 11] = [
 ];
 
 /// The names of locators, URIs, and what a folder with these files has for them.
-static HELD: [(&str, &str, Result<&[u8], NoFile>); 15] = [
+static HELD: [(&str, &str, Result<&[u8], NoFile>); 16] = [
     ("name", "rsync://host/module/x.roa", Ok(b"file")),
     ("name", "https://host/module/x.roa", Ok(b"file")),
     ("name", "rsync://host/module/y.roa", Err(NoFile::Missing)),
     ("name", "rsync://host/module/big.roa", Err(NoFile::TooLarge)),
-    // what is at the URI comes first, whatever it is
+    // what is at the URI is one thing, and what is kept as the trust anchor another
     ("name", "rsync://h/ta/t.cer", Ok(b"published")),
+    ("name", "ta:rsync://h/ta/t.cer", Ok(b"taken")),
     ("link", "rsync://h/ta/link.cer", Err(NoFile::NotRegular)),
-    ("name", "https://h/ta/s.cer", Ok(b"anchor")),
-    ("other", "https://h/ta/s.cer", Err(NoFile::Missing)),
-    ("name", "rsync://h/ta/s.cer", Err(NoFile::Missing)),
+    ("name", "ta:https://h/ta/s.cer", Ok(b"anchor")),
+    ("other", "ta:https://h/ta/s.cer", Err(NoFile::Missing)),
+    ("name", "https://h/ta/s.cer", Err(NoFile::Missing)),
     // no name leads out of the folder
-    ("..", "https://h/ta/s.cer", Err(NoFile::Missing)),
+    ("..", "ta:https://h/ta/s.cer", Err(NoFile::Missing)),
     ("name", "rsync://../module/x", Err(NoFile::Missing)),
     ("name", "https://host/../x", Err(NoFile::Missing)),
     ("name", "rsync://host/module/", Err(NoFile::Missing)),
@@ -65,14 +59,6 @@ static BELOW: [(&[u8], bool); 6] = [
     (b"host/..", false),
     (b"", false),
 ];
-
-fn locator(alloc: Global) -> Result<Tal, Fail> {
-    match Tal::read_named(alloc, String::new(alloc), &mut Counted::new(LOCATOR)) {
-        Ok(tal) => Ok(tal),
-        Err(ReadError::Memory) => Err(Fail::Memory),
-        Err(_) => Err(Fail::Refused),
-    }
-}
 
 // Whether a copy has just this for a URI, and octets only where as many are asked for.
 fn has<R: Repository>(
@@ -106,14 +92,13 @@ fn is_larger<R: Repository>(
 }
 
 // Whether the folder has for each URI what its row says.
-fn folder_has(alloc: Global, locator: &Tal) -> Result<bool, AllocError> {
+fn folder_has(alloc: Global) -> Result<bool, AllocError> {
     let folders = Files { files: &FILES };
     for (name, uri, wanted) in &HELD {
         let copy = FolderCopy {
             folders: &folders,
             folder: "copy",
             name,
-            locator,
         };
         if !has(alloc, &copy, uri, wanted)? {
             return Ok(false);
@@ -124,8 +109,7 @@ fn folder_has(alloc: Global, locator: &Tal) -> Result<bool, AllocError> {
 
 #[test]
 fn folders_have_files(rt: HostRuntime) -> Result<(), Fail> {
-    let locator = locator(rt.alloc())?;
-    assert!(rt; folder_has(rt.alloc(), &locator)?);
+    assert!(rt; folder_has(rt.alloc())?);
     assert!(rt; NAMES.iter().all(|row| locator_name(row.0) == row.1));
     assert!(rt; BELOW.iter().all(|row| is_below(row.0) == row.1));
     Ok(())

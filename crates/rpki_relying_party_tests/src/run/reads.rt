@@ -79,7 +79,6 @@ fn run_over<F: Folders>(alloc: Global, folders: &F, tal: &Tal, limit: u64) -> Re
         folders,
         folder: "copy",
         name: "one",
-        locator: tal,
     };
     let pass = Pass {
         copy: &copy,

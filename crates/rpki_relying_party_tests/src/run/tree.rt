@@ -123,7 +123,6 @@ fn run_within(alloc: Global, tal: &Tal, limit: u64, found: &mut Found) -> Result
         folders: &folders,
         folder: "copy",
         name: "one",
-        locator: tal,
     };
     let pass = Pass {
         copy: &copy,
