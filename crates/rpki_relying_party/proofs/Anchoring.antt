@@ -298,9 +298,12 @@ module _ (s : Setting) (key : List ℕ) where
     pub tried-missing : (why : NoFile) → FindsFor s.finds text (Err why)
         → WhyNoneGood s key (text ∷ []) (anchors.NoFile why)
     tried-missing why h = elim (says-more why) [
-      | inl none ↦ inl (none, All-cons (LacksFor s.finds Missing) text []
-          (subst (λ (w : NoFile). LacksFor s.finds w text) none h)
-          (All-nil (LacksFor s.finds Missing)))
+      | inl none ↦ inl (
+        none,
+        All-cons (LacksFor s.finds Missing) text []
+            (subst (λ (w : NoFile). LacksFor s.finds w text) none h)
+            (All-nil (LacksFor s.finds Missing)),
+      )
       | inr more ↦ inr (record {
         before = [];
         text = text;

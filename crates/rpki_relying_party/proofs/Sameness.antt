@@ -334,7 +334,8 @@ module _ (s : Setting) (ca by : Validated) where
       (
         checks-to manifest_kind (ManifestForm Any Der) (h.0) (λ k said. said ≡ Ok tt) error
             (h.2.0),
-        h.2.1, h.2.2,
+        h.2.1,
+        h.2.2,
       ),
     )
     no-manifest-to (manifests.NotYet time) h = outdated-to (manifests.NotYet time) h
