@@ -372,8 +372,7 @@ module _ (s : Setting) (t : Moment) (later : stamp s.now ≤ stamp t) (key : Lis
   good-before : (c : Certificate) → (¬ (stamp s.now < stamp c.tbs.validity.not_before))
       → IsGoodFor (at_moment s t) key c → IsGoodFor s key c
   good-before c begun h =
-      let v = (anchor-valid s.verdict c t).0 (h.1) in
-      (
+      let v = (anchor-valid s.verdict c t).0 (h.1) in (
         h.0,
         (anchor-valid s.verdict c s.now).1 (
           v.0,
