@@ -1,6 +1,6 @@
 -- The trust anchor of a locator is found, or there is none.
-use Rattle.std.proofs.Common.{◌≡◌, ◌⊎◌, inl, inr, ℕ, ◌≤◌, List, [], ◌∷◌, ◌++◌, length, Ok, Err, Result}
-use Rattle.std.proofs.Common.{append_assoc, refl, sym, subst, ap, ◌∙◌, All, Contains, flat_map}
+use Rattle.std.proofs.Common.{◌≡◌, ◌⊎◌, inl, inr, ℕ, ◌≤◌, List, [], ◌∷◌, ◌++◌, length, Ok, Err}
+use Rattle.std.proofs.Common.{Result, append_assoc, refl, sym, subst, ap, ◌∙◌, All, Contains, flat_map}
 use Rattle.std.proofs.Common.{Bool, true, false, IsTrue, true≢false}
 use Rattle.std.specs.Prelude.{◌↔◌, MatchResult}
 use Rattle.std.proofs.lemmas.List.{append-nil}
@@ -23,10 +23,10 @@ use Rattle.rpki_certs.specs.declared.issuer.IssuerError.TheVariants as issuers
 use Rattle.rpki_tal.specs.Tal.{Locator}
 use Rattle.rpki_tal.specs.Uri.{https_first, uri_text}
 use Rattle.rpki_tal.specs.declared.uri.TalUri.{TalUri}
-use Rattle.rpki_relying_party.specs.Anchors.{FindsFor, LacksFor, LacksFile, LackFiles, HasOther, Lacks}
-use Rattle.rpki_relying_party.specs.Anchors.{HasKey, IsGoodFor, HasAnchor, HasRefused, IsFirst}
-use Rattle.rpki_relying_party.specs.Anchors.{WhyNoneGood, WhyNoAnchor, IsAnchorOf, IsJudged, IsTried}
-use Rattle.rpki_relying_party.specs.Anchors.{IsRefusalOf, first_fault, most_uris}
+use Rattle.rpki_relying_party.specs.Anchors.{FindsFor, LacksFor, LacksFile, LackFiles, Lacks}
+use Rattle.rpki_relying_party.specs.Anchors.{HasOther, HasKey, IsGoodFor, HasAnchor, HasRefused}
+use Rattle.rpki_relying_party.specs.Anchors.{IsFirst, WhyNoneGood, WhyNoAnchor, IsAnchorOf}
+use Rattle.rpki_relying_party.specs.Anchors.{IsJudged, IsTried, IsRefusalOf, first_fault, most_uris}
 use Rattle.rpki_relying_party.specs.Anchors.{candidates, candidates_at, kept_text}
 use Rattle.rpki_relying_party.specs.Memory.{IsIssuerMemory}
 use Rattle.rpki_relying_party.specs.Setting.{Setting}
@@ -335,7 +335,8 @@ module _ (s : Setting) (key : List ℕ) where
       (text, contains-first text [], (octets, f, h)),
     )
     tried-octets octets f (Err (anchors.Refused e)) h = (
-      All-cons (Lacks s.finds (IsGoodFor s key)) text [] (refused-lacks e text (octets, f, h.0, h.1, h.2))
+      All-cons (Lacks s.finds (IsGoodFor s key)) text []
+          (refused-lacks e text (octets, f, h.0, h.1, h.2))
           (All-nil (Lacks s.finds (IsGoodFor s key))),
       record {
         before = [];

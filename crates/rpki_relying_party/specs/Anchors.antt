@@ -45,8 +45,8 @@ candidates uris = flat_map candidates_at uris
 abbrev pub HasHuge : (List ℕ → Result (List ℕ) NoFile → Type 0) → List ℕ → Type 0
 HasHuge finds text = (octets : List ℕ) × finds text (Ok octets) × (2 ^ 64 ≤ length octets)
 
--- What is found for it: octets, or why there are none. A file of 2 ^ 64 octets or more counts as too
--- large.
+-- What is found for it: octets, or why there are none. A file of 2 ^ 64 octets or more counts as
+-- too large.
 abbrev pub FindsFor : (List ℕ → Result (List ℕ) NoFile → Type 0) → List ℕ
     → Result (List ℕ) NoFile → Type 0
 FindsFor finds text (Ok octets) = finds text (Ok octets) × (length octets < 2 ^ 64)
@@ -83,7 +83,7 @@ abbrev pub HasKey : List ℕ → Certificate → Type 0
 HasKey key c = c.tbs.key ≡ key
 
 -- The certificate is a good one of the trust anchor with this key: it has the key, and passes the
--- validation of a trust anchor, which it signed itself.
+-- validation of a trust anchor, which it signed itself (RFC 8630, section 3).
 abbrev pub IsGoodFor : Setting → List ℕ → Certificate → Type 0
 IsGoodFor s key c = HasKey key c × AllHold (ta_validation s.verdict c s.now)
 
@@ -111,8 +111,8 @@ pub record IsFirstReason (finds : List ℕ → Result (List ℕ) NoFile → Type
   pub says_more : why ≢ Missing
   pub others : All (LacksFile finds) after
 
--- No file is found for any of these: the copy has none for any, or there is a first reason that says
--- more.
+-- No file is found for any of these: the copy has none for any, or there is a first reason that
+-- says more.
 abbrev pub LackFiles : (List ℕ → Result (List ℕ) NoFile → Type 0) → List (List ℕ) → NoFile → Type 0
 LackFiles finds texts why =
     ((why ≡ Missing) × All (LacksFor finds Missing) texts) ⊎ IsFirstReason finds texts why
@@ -189,8 +189,8 @@ WhyNoAnchor s tal fault =
     (length tal.uris ≤ most_uris)
     × WhyNoneGood s tal.key (candidates (https_first tal.uris)) fault
 
--- Of two faults the first, unless the other says more: that there is a file says more than that there
--- is none, and that there is a certificate with the key says most.
+-- Of two faults the first, unless the other says more: that there is a file says more than that
+-- there is none, and that there is a certificate with the key says most.
 abbrev pub first_fault : AnchorFault → AnchorFault → AnchorFault
 first_fault (anchors.NoFile Missing) here = here
 first_fault (anchors.NoFile why) (anchors.NoFile other) = anchors.NoFile why

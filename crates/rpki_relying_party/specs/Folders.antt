@@ -22,9 +22,9 @@ FindsBelow finds name found =
 abbrev pub is_kept : List ℕ → Bool
 is_kept uri = starts_with (λ a b. a == b) uri (codes "ta:")
 
--- The name of the file of a URI, under the locator with this name: the host and the path of the URI;
--- after `ta:` it is `ta/NAME/LAST`, where NAME is the name of the locator, and LAST what stands after
--- the last slash of the URI.
+-- The name of the file of a URI, under the locator with this name: the host and the path of the
+-- URI; after `ta:` it is `ta/NAME/LAST`, where NAME is the name of the locator, and LAST what stands
+-- after the last slash of the URI.
 abbrev pub file_name : List ℕ → List ℕ → List ℕ
 file_name name uri = if is_kept uri then anchor_name name uri else path_of uri
 

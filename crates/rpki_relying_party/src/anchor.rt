@@ -256,12 +256,12 @@ fn try_all<R: Repository, C: Crypto>(
     try_in_order(alloc, pass, &ordered)
 }
 
-/// The trust anchor of a locator: the first good certificate among the candidates of its URIs, HTTPS
-/// first. For each URI these are the file of the URI itself, and the one that the copy keeps as that
-/// of the trust anchor. A certificate is good if it has the locator's key and is valid as that of a
-/// trust anchor, which it signed itself (RFC 8630, section 3). So nobody but the holder of the key
-/// decides what the trust anchor is, whoever else has a file at its URI. Each candidate is read once
-/// at most. A locator with more than 64 URIs is refused.
+/// The trust anchor of a locator: the first good certificate among the candidates of its URIs,
+/// HTTPS first. For each URI these are the file of the URI itself, and the one that the copy keeps
+/// as that of the trust anchor. A certificate is good if it has the locator's key and is valid as
+/// that of a trust anchor, which it signed itself (RFC 8630, section 3). So nobody but the holder
+/// of the key makes one that counts, whoever else has a file at its URI. Each candidate is read
+/// once at most. A locator with more than 64 URIs is refused.
 pub fn anchor_of<R: Repository, C: Crypto>(
     alloc: Global,
     pass: &Pass<'_, R, C>,

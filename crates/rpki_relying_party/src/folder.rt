@@ -37,9 +37,9 @@ pub trait Folders {
 }
 
 /// A folder as a copy of the repositories, for a validation run under a locator. The file of a URI
-/// is that at its host and its path. What is kept as the certificate of the locator's trust anchor is
-/// the file `ta/NAME/LAST`, where NAME is the name of the locator, and LAST what stands after the last
-/// slash of the URI: so `rpki-client` keeps it.
+/// is that at its host and its path. What is kept as the certificate of the locator's trust anchor
+/// is the file `ta/NAME/LAST`, where NAME is the name of the locator, and LAST what stands after
+/// the last slash of the URI: so `rpki-client` keeps it.
 #[derive(Drop)]
 pub struct FolderCopy<'a, F> {
     /// The folders among which it is.

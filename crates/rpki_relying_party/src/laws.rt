@@ -133,9 +133,9 @@ pub fn payloads_hold_now<R: Repository, C: Crypto>(_pass: &Pass<'_, R, C>)
         → stamp _pass.now.moment ≤ stamp h.until }
 {}
 
-/// A trust anchor of a locator is a good one at each moment from now until its certificate ends, where
-/// the copy stays the same. It is the locator's trust anchor then, unless the copy has a certificate
-/// with its key that begins to be valid only later.
+/// A trust anchor of a locator is a good one at each moment from now until its certificate ends,
+/// where the copy stays the same. It is the locator's trust anchor then, unless the copy has a
+/// certificate with its key that begins to be valid only later.
 pub fn anchors_hold<R: Repository, C: Crypto>(_pass: &Pass<'_, R, C>)
     ensures good { (tal : Locator) (v : Validated) (t : Moment)
         → IsAnchorOf (setting R.finds C.digest_of C.is_signed _pass.now) tal v
