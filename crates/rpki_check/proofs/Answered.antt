@@ -72,11 +72,11 @@ unmapped P f (y ∷ ys) h =
     All-cons (λ z. P (f z)) y ys (All-head P (f y) (map f ys) h)
     (unmapped P f ys (All-tail P (f y) (map f ys) h))
 
-certificate_of : KeptCertificate → Certificate
+abbrev certificate_of : KeptCertificate → Certificate
 certificate_of k = k.certificate
 
 -- no list revokes a certificate of this issuer
-Unrevoked : List KeptCrl → Validated → Certificate → Type 0
+abbrev Unrevoked : List KeptCrl → Validated → Certificate → Type 0
 Unrevoked lists issuer c = ¬ IsRevokedOf lists issuer.cert.certificate c
 
 module _ (q : Question) (octets : List ℕ) where

@@ -91,7 +91,7 @@ none-asked mode number octets z n none a (inr h) = z h.0
 -- ---- one thing is asked for
 
 -- what has this number
-with-code : ℕ → Asked
+abbrev with-code : ℕ → Asked
 with-code n =
     if nat_eq n 1 then Object Roa
     else if nat_eq n 2 then Object Aspa
@@ -110,7 +110,7 @@ one-code : (a b : Asked) → asked_code a ≡ asked_code b → a ≡ b
 one-code a b e = sym (code-of a) ∙ ap with-code e ∙ code-of b
 
 -- the kind whose type has this last octet
-with-octet : ℕ → Kind
+abbrev with-octet : ℕ → Kind
 with-octet n =
     if nat_eq n 0x18 then Roa
     else if nat_eq n 0x31 then Aspa
