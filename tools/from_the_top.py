@@ -24,7 +24,7 @@ keep its clauses, which `.ci/run` proves again from nothing ([PROVED.md](PROVED.
 proved, what is only tested, and what is trusted: the toolchain, RSA and SHA-256, and what is handed
 in); everything holds unless memory runs out. That a definition says what its standard says is left to
 you, with the standard beside this page; where this project is stricter or laxer, the sentence says
-that it is this project's own rule, and [PROFILE.md](PROFILE.md) has all of these.
+that it is this project's own rule, and [DECISIONS.md](DECISIONS.md) has all of these.
 `tools/specification` makes the page from the comments in `crates/NAME/specs`; change them there.
 
 ## How it is written

@@ -71,15 +71,14 @@ authority_info_access = id_pkix 1 1
 abbrev pub subject_info_access : List ℕ
 subject_info_access = id_pkix 1 11
 
--- The extension of addresses that goes with a policy: id-pe-ipAddrBlocks (4.8.10) where a claim of
--- too much is refused, and id-pe-ipAddrBlocks-v2 (RFC 8360, section 4.2.2.1) where it is trimmed.
+-- The address extension of each policy: id-pe-ipAddrBlocks (4.8.10) where an overclaim is refused,
+-- id-pe-ipAddrBlocks-v2 (RFC 8360, section 4.2.2.1) where it is trimmed.
 abbrev pub ip_resources : Overclaim → List ℕ
 ip_resources Refuse = id_pkix 1 7
 ip_resources Trim = id_pkix 1 28
 
--- The extension of AS numbers that goes with a policy: id-pe-autonomousSysIds (4.8.11) where a
--- claim of too much is refused, and id-pe-autonomousSysIds-v2 (RFC 8360, section 4.2.2.3) where it
--- is trimmed.
+-- The AS number extension of each policy: id-pe-autonomousSysIds (4.8.11) where an overclaim is
+-- refused, id-pe-autonomousSysIds-v2 (RFC 8360, section 4.2.2.3) where it is trimmed.
 abbrev pub as_resources : Overclaim → List ℕ
 as_resources Refuse = id_pkix 1 8
 as_resources Trim = id_pkix 1 29
@@ -89,7 +88,7 @@ abbrev pub other : Overclaim → Overclaim
 other Refuse = Trim
 other Trim = Refuse
 
--- the extensions that are known in a resource certificate (4.8; RFC 8360, section 4.2.2)
+-- the extensions known in a resource certificate (4.8; RFC 8360, section 4.2.2)
 abbrev pub certificate_extensions : List (List ℕ)
 certificate_extensions =
     subject_key_identifier
@@ -107,9 +106,9 @@ certificate_extensions =
     ∷ as_resources Trim
     ∷ []
 
--- ---- what they say
+-- ---- what the extensions say
 
--- the access to a subject of which nothing is said
+-- the subject information access that has no URI
 abbrev pub no_access : SubjectAccess
 no_access = record {
   ca_repository = None;
@@ -118,23 +117,23 @@ no_access = record {
   rpki_notify = None;
 }
 
--- the claims where no family is named
+-- the claims if neither address family is named
 abbrev pub no_addresses : IpClaims
 no_addresses = record { v4 = Missing; v6 = Missing }
 
--- What the extension with this identifier says by G, or else this.
+-- The value of the extension with this identifier, as `G` reads it; the default if there is none.
 abbrev pub StatedOr : {X : Type 0} → X → List Extension → List ℕ → (Mode → List ℕ → X → Type 0)
     → X → Type 0
 StatedOr {X} default list oid G x =
     (found : Option X) × Stated list oid G found × (x ≡ unwrap_or found default)
 
--- The octets have the form of purposes, and what they mean is true: that purposes are there.
+-- The octets have the form of an extended key usage. The value is always true: it is present.
 abbrev pub HasPurposes : Mode → List ℕ → Bool → Type 0
 HasPurposes mode = Made (λ _. true) (PurposesForm mode)
 
--- What is said of the key. Its identifier and what it is for have to be there (4.8.2, 4.8.4). That
--- the others may be missing is this project's own rule: checks of a certificate tell where they
--- have to be there.
+-- Facts about the key. The subject key identifier (4.8.2) and the key usage (4.8.4) must be
+-- present. Letting the others be missing here is this project's own rule: the checks of a
+-- certificate decide which it needs.
 pub record AreKeyFacts (list : List Extension) (x : KeyFacts) : Type 0 where
   pub subject_key : Stated list subject_key_identifier SubjectKeyForm (Some x.subject_key)
   pub authority_key : Stated list authority_key_identifier AuthorityKeyForm x.authority_key
@@ -142,15 +141,15 @@ pub record AreKeyFacts (list : List Extension) (x : KeyFacts) : Type 0 where
   pub usage : Stated list key_usage KeyUsageForm (Some x.usage)
   pub has_purposes : StatedOr false list extended_key_usage HasPurposes x.has_purposes
 
--- Where something lies (4.8.6 to 4.8.8). That each may be missing is this project's own rule:
--- checks of a certificate tell where it has to be there.
+-- The URIs (4.8.6 to 4.8.8). Letting each be missing here is this project's own rule: the checks of
+-- a certificate decide which it needs.
 pub record AreLocations (list : List Extension) (x : Locations) : Type 0 where
   pub crl : Stated list crl_distribution_points PointsForm x.crl
   pub ca_issuer : StatedOr None list authority_info_access AuthorityAccessForm x.ca_issuer
   pub subject : StatedOr no_access list subject_info_access SubjectAccessForm x.subject
 
--- What is claimed. The policy has to be there (4.8.9). Claims stand in the extensions that go with
--- it, and none in those of the other one (RFC 8360, section 4.2.2).
+-- The resources claimed. The policy must be present (4.8.9). It decides which two extensions hold
+-- the claims; those of the other policy must be missing (RFC 8360, section 4.2.2).
 pub record AreClaims (list : List Extension) (x : Claims) : Type 0 where
   pub policy : Stated list certificate_policies PoliciesForm (Some x.policy)
   pub addresses : StatedOr no_addresses list (ip_resources x.policy) IpClaimsForm x.addresses
@@ -158,8 +157,8 @@ pub record AreClaims (list : List Extension) (x : Claims) : Type 0 where
   pub no_other_addresses : All (λ e. ¬ (oid_of e ≡ ip_resources (other x.policy))) list
   pub no_other_as_numbers : All (λ e. ¬ (oid_of e ≡ as_resources (other x.policy))) list
 
--- What the extensions say, which may stand together by `MayStand`. Those that are not known say
--- nothing.
+-- What the extensions say together. `MayStand` says which may stand in one certificate; those that
+-- are not known say nothing.
 pub record AreExtensions (list : List Extension) (x : Extensions) : Type 0 where
   pub stand : MayStand certificate_extensions list
   pub key : AreKeyFacts list x.key
@@ -172,15 +171,15 @@ ExtensionsForm mode = Understood AreExtensions (SequenceOf mode (ExtensionForm m
 
 -- ---- as functions
 
--- what the extension says, or else this
+-- the value of the extension, or the default if there is none
 abbrev pub stated_or : {X : Type 0} → X → List ℕ → Parser X → List Extension → Option X
 stated_or default oid p list = stated oid p list >>= λ found. Some (unwrap_or found default)
 
--- whether it has the form of purposes
+-- reads an extended key usage; the value is always true
 abbrev pub has_purposes_at : Parser Bool
 has_purposes_at = made (λ _. true) purposes_at
 
--- what is said of the key
+-- the facts about the key
 unfoldable pub key_facts_of : List Extension → Option KeyFacts
 key_facts_of list = do
   subject ← must (stated subject_key_identifier subject_key_at list)
@@ -196,7 +195,7 @@ key_facts_of list = do
     has_purposes = purposes;
   })
 
--- where something lies
+-- the URIs
 unfoldable pub locations_of : List Extension → Option Locations
 locations_of list = do
   crl ← stated crl_distribution_points points_at list
@@ -211,13 +210,13 @@ claims_under policy list = do
   numbers ← stated_or Missing (as_resources policy) as_identifiers_at list
   Some (record { policy = policy; addresses = addresses; as_numbers = numbers })
 
--- whether an extension of the other policy stands there
+-- whether an extension of the other policy is present
 abbrev pub has_other : Overclaim → List Extension → Bool
 has_other policy list =
     has_key oid_of (ip_resources (other policy)) list
     || has_key oid_of (as_resources (other policy)) list
 
--- what is claimed
+-- the resources claimed, under the policy stated
 unfoldable pub claims_of_list : List Extension → Option Claims
 claims_of_list list =
     must (stated certificate_policies policies_at list)

@@ -12,13 +12,13 @@ use Rattle.rpki_basics.specs.declared.limits.ProviderLimit.{ProviderLimit}
 use Rattle.rpki_basics.specs.Limits.{most_providers}
 use Rattle.rpki_resources.specs.As.{IsAsn}
 
--- what a content says
+-- what an ASPA states: the customer and its providers
 pub record Aspa : Type 0 where
   pub customer : ℕ
   pub providers : List ℕ
 
--- 1 to as many AS numbers as the limit says, each below the next, and 0 only alone. The profile's
--- ASN.1 has SIZE (1..MAX) (section 3); the limits are this project's own.
+-- At least one AS number and no more than the limit, in strictly ascending order; 0 only alone. The
+-- profile's ASN.1 has SIZE (1..MAX) (section 3); the limits are this project's own.
 pub record IsProviderSet (limit : ProviderLimit) (providers : List ℕ) : Type 0 where
   pub some : 1 ≤ length providers
   pub most : length providers ≤ most_providers limit
@@ -26,7 +26,7 @@ pub record IsProviderSet (limit : ProviderLimit) (providers : List ℕ) : Type 0
   pub alone : Contains providers 0 → length providers ≡ 1
   pub numbers : All IsAsn providers
 
--- The customer is an AS number that is not 0 and not among its providers, and these are a set
+-- The customer is an AS number other than 0 and none of its own providers. The providers are a set
 -- within the limit (`IsProviderSet`).
 pub record IsAttestation (limit : ProviderLimit) (a : Aspa) : Type 0 where
   pub not_zero : a.customer ≢ 0
@@ -34,7 +34,7 @@ pub record IsAttestation (limit : ProviderLimit) (a : Aspa) : Type 0 where
   pub providers : IsProviderSet limit a.providers
   pub others : Contains a.providers a.customer → ⊥
 
--- the providers of a customer: a set within the limit (`IsProviderSet`), without the customer
+-- a customer's providers: a set within the limit (`IsProviderSet`) without the customer itself
 pub record AreProviders (limit : ProviderLimit) (customer : ℕ) (providers : List ℕ) : Type 0 where
   pub set : IsProviderSet limit providers
   pub others : Contains providers customer → ⊥

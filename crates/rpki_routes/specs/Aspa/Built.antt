@@ -1,4 +1,4 @@
--- ASPA contents that are built. The sections are those of draft-ietf-sidrops-aspa-profile-15.
+-- Building the content of an ASPA. The sections are those of draft-ietf-sidrops-aspa-profile-15.
 use Rattle.std.specs.Prelude.{◌≡◌, ◌≢◌, ℕ, ◌≤◌, ◌<◌, List, [], ◌∷◌, length, get_or, Contains}
 use Rattle.std.specs.Prelude.{codes}
 use Rattle.std.specs.List.Sorted.{IsPermutation, IsStrictlyIncreasing}
@@ -11,22 +11,22 @@ use Rattle.rpki_routes.specs.Aspa.{Aspa}
 use Rattle.rpki_routes.specs.declared.aspa.builder.AddProviderError.{AddProviderError}
 use Rattle.rpki_routes.specs.declared.aspa.builder.AddProviderError.TheVariants.{Duplicate, Memory}
 
--- The new providers are the old ones and this one, in ascending order.
+-- The new providers are the old ones plus this one, in ascending order.
 pub record IsAdded (provider : ℕ) (old new : List ℕ) : Type 0 where
   pub both : IsPermutation (provider ∷ old) new
   pub ascending : IsStrictlyIncreasing new
 
--- A place among numbers: those before it are lower than this one, and the others are higher.
+-- Where a number belongs in a list: all before it are lower, all from there on are higher.
 pub record IsPlace (number : ℕ) (numbers : List ℕ) (place : ℕ) : Type 0 where
   pub within : place ≤ length numbers
   pub lower : (k : ℕ) → k < place → get_or numbers k 0 < number
   pub higher : (k : ℕ) → place ≤ k → k < length numbers → number < get_or numbers k 0
 
--- One of the numbers stands twice: they are this one, this one again, and others.
+-- A number stands twice: the list is that number, the same again, and others, in some order.
 abbrev pub HasTwice : List ℕ → Type 0
 HasTwice numbers = (n : ℕ) × (others : List ℕ) × IsPermutation (n ∷ (n ∷ others)) numbers
 
--- what is asked of a content whose providers ascend, in the order in which it is looked at (3)
+-- the checks of an ASPA whose providers ascend, in order (3)
 abbrev pub aspa_checks : ProviderLimit → Aspa → List (Check BuildFault)
 aspa_checks limit a =
     (fault.CustomerAs0 unless (a.customer ≢ 0))
@@ -36,7 +36,7 @@ aspa_checks limit a =
     ∷ (fault.As0NotAlone unless (Contains a.providers 0 → length a.providers ≡ 1))
     ∷ []
 
--- the text of a refusal to add a provider
+-- the error text when a provider cannot be added
 abbrev pub add_text : AddProviderError → List ℕ
 add_text Duplicate = codes "provider as set contains duplicate"
 add_text Memory = codes "out of memory"

@@ -20,14 +20,14 @@ use Rattle.rpki_sigobj.specs.Signed.Kind.{ObjectKind}
 abbrev pub ct_aspa : List ℕ
 ct_aspa = 0x2A ∷ 0x86 ∷ 0x48 ∷ 0x86 ∷ 0xF7 ∷ 0x0D ∷ 0x01 ∷ 0x09 ∷ 0x10 ∷ 0x01 ∷ 0x31 ∷ []
 
--- The certificate names AS numbers, and does not inherit them (4).
+-- The certificate claims AS numbers and does not inherit them (4).
 abbrev pub named_checks : Claim (List (Block ℕ)) → List (Check VerificationError)
 named_checks claim =
     (faults.NoAsResources unless (claim ≢ Missing))
     ∷ (faults.InheritedAsResources unless (claim ≢ Inherit))
     ∷ []
 
--- The certificate of an ASPA names one AS number, which is the customer (4).
+-- The certificate of an ASPA claims one AS number, the customer (4).
 abbrev pub block_checks : ℕ → List (Block ℕ) → List (Check VerificationError)
 block_checks customer blocks =
     (faults.EmptyAsResources unless (blocks ≢ []))
@@ -36,34 +36,33 @@ block_checks customer blocks =
     ∷ (faults.OtherCustomer unless All (λ (b : Block ℕ). b.min ≡ customer) blocks)
     ∷ []
 
--- What it claims of AS numbers is the customer, and nothing else.
+-- The certificate claims the customer and no other AS number.
 abbrev pub number_checks : ℕ → Claim (List (Block ℕ)) → List (Check VerificationError)
 number_checks customer claim = named_checks claim ++ block_checks customer (added claim)
 
--- It names no addresses (4).
+-- The certificate claims no addresses (4).
 abbrev pub address_checks : Claims → List (Check VerificationError)
 address_checks x =
     (faults.IpResources unless ((x.addresses.v4 ≡ Missing) × (x.addresses.v6 ≡ Missing))) ∷ []
 
--- what is checked of what the certificate claims, in this order
+-- the checks of the certificate's claims, in order
 abbrev pub aspa_claimed : Aspa → Claims → List (Check VerificationError)
 aspa_claimed a x = number_checks a.customer x.as_numbers ++ address_checks x
 
--- The validated certificate has the customer. That a certificate whose claims are trimmed (RFC
--- 8360) may have lost it, and is then refused, is this project's own rule.
+-- The validated certificate has the customer. Trimming (RFC 8360) may take the customer away;
+-- refusing the ASPA then is this project's own rule.
 abbrev pub aspa_held : Aspa → Sets → List (Check VerificationError)
 aspa_held a sets =
     (faults.CustomerNotHeld unless Covers (λ n. n) sets.as_numbers (only a.customer ∷ [])) ∷ []
 
--- The numbers of an ASPA are those of its certificate: it claims the customer and nothing else, and
--- has it (4).
+-- The certificate covers the ASPA: it claims the customer and nothing else, and has it (4).
 pub record AspaCovered (a : Aspa) (x : Claims) (sets : Sets) : Type 0 where
   pub customer : x.as_numbers ≡ Explicit (only a.customer ∷ [])
   pub v4 : x.addresses.v4 ≡ Missing
   pub v6 : x.addresses.v6 ≡ Missing
   pub held : Covers (λ n. n) sets.as_numbers (only a.customer ∷ [])
 
--- An ASPA is published.
+-- An ASPA as a kind of signed object; it must be published.
 abbrev pub aspa_kind : ObjectKind Aspa
 aspa_kind = record {
   type = ct_aspa;

@@ -1,4 +1,4 @@
--- ASPAs that are built and signed. The sections are those of draft-ietf-sidrops-aspa-profile-15.
+-- Building and signing an ASPA. The sections are those of draft-ietf-sidrops-aspa-profile-15.
 use Rattle.std.specs.Prelude.{ℕ, List, [], ◌∷◌}
 use Rattle.rpki_basics.specs.declared.limits.ProviderLimit.{ProviderLimit}
 use Rattle.rpki_basics.specs.declared.signing.SigningError.{SigningError}
@@ -12,8 +12,8 @@ use Rattle.rpki_routes.specs.Aspa.Checks.{ct_aspa}
 use Rattle.rpki_routes.specs.Aspa.Written.{aspa_octets}
 use Rattle.rpki_signing.specs.Content.{IsNotSigned}
 
--- what a builder of signed objects is told of an ASPA: it claims the customer and nothing else (4),
--- and is else as it was handed in
+-- the caller's settings for the object, but with a certificate that claims the customer and nothing
+-- else (4)
 abbrev pub claiming : Aspa → Settings → Settings
 claiming a handed = record handed {
   as_numbers = Explicit (only a.customer ∷ []);
@@ -21,15 +21,14 @@ claiming a handed = record handed {
   v6 = Missing;
 }
 
--- The signed object of an ASPA: an attestation within the limit, and the object of its type and of
--- its octets that is built by a builder that claims the customer.
+-- The signed object of an ASPA: the ASPA is valid within the limit, and the object has its type,
+-- its octets, and a certificate that claims the customer.
 pub record IsBuiltAspa (limit : ProviderLimit) (a : Aspa) (handed : Settings)
     (issuer digest : List ℕ) (s : SignedData) : Type 0 where
   pub said : IsAttestation limit a
   pub built : IsBuilt (claiming a handed) issuer ct_aspa (aspa_octets a) digest s
 
--- Why an ASPA is not built and signed: what is asked of it does not hold, or its object is not
--- built.
+-- Why an ASPA is not signed: a check of the ASPA fails, or the signed object cannot be built.
 abbrev pub IsNotBuiltAspa : {E : Type 0} → (List ℕ → List ℕ → List ℕ → Type 0)
     → (List ℕ → Type 0) → ProviderLimit → Aspa → Settings → List ℕ → List ℕ → SigningError E
     → Type 0

@@ -27,44 +27,43 @@ range_of p = record { min = p.addr; max = last_of p.addr p.len }
 abbrev pub HasPrefix : List (Block ℕ) → Address → Type 0
 HasPrefix set a = Covers (λ n. n) set (range_of a.prefix ∷ [])
 
--- the fault of an address that is not covered
+-- the error for an uncovered prefix
 abbrev pub uncovered : AddressFamily → Address → VerificationError
 uncovered family a =
     faults.UncoveredPrefix (record { prefix = max_len_prefix (of_family family a) })
 
--- Each prefix has to be in the set of the addresses that the certificate has of the family (5).
--- They are looked at in their order; it need not be a certain one.
+-- The certificate has every prefix of the family (5). The prefixes are checked in the order of the
+-- ROA, which may be any.
 abbrev pub prefix_checks : AddressFamily → List (Block ℕ) → List Address
     → List (Check VerificationError)
 prefix_checks family set [] = []
 prefix_checks family set (a ∷ others) =
     (uncovered family a unless HasPrefix set a) ∷ prefix_checks family set others
 
--- No number is in the set.
+-- The set is empty.
 abbrev pub HasNone : List (Block ℕ) → Type 0
 HasNone set = (n : ℕ) → Holds (λ n. n) set n → ⊥
 
--- The prefixes of a family: where there is one, the certificate has an address of the family, and
--- then each prefix is looked at (5).
+-- The prefixes of one family: if there are any, the certificate has an address of the family; then
+-- each prefix is checked (5).
 abbrev pub family_checks : AddressFamily → List (Block ℕ) → List Address
     → List (Check VerificationError)
 family_checks family set list =
     (faults.NoPrefixCovered family unless (HasNone set → list ≡ []))
     ∷ prefix_checks family set list
 
--- What is checked of the validated certificate of a ROA: the prefixes of IPv4, and then those of
--- IPv6.
+-- The checks of a ROA against its validated certificate: the IPv4 prefixes, then the IPv6 ones.
 abbrev pub roa_held : Roa → Sets → List (Check VerificationError)
 roa_held r sets = family_checks Ipv4 sets.v4 r.v4 ++ family_checks Ipv6 sets.v6 r.v6
 
--- The certificate has the addresses of each prefix (5).
+-- The certificate has all addresses of every prefix (5).
 pub record RoaCovered (r : Roa) (sets : Sets) : Type 0 where
   pub v4 : All (HasPrefix sets.v4) r.v4
   pub v6 : All (HasPrefix sets.v6) r.v6
 
--- A ROA is published, and its prefixes are looked at once its certificate was validated (5). That
--- the certificate may inherit addresses and may name AS numbers, against section 5, is this
--- project's own rule.
+-- A ROA as a kind of signed object; it must be published, and its prefixes are checked against its
+-- validated certificate (5). Section 5 forbids the certificate to inherit addresses or to name AS
+-- numbers; accepting both is this project's own rule.
 abbrev pub roa_kind : ObjectKind Roa
 roa_kind = record {
   type = route_origin_authz;
