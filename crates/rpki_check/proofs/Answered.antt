@@ -35,7 +35,6 @@ use Rattle.rpki_sigobj.specs.Object.{mode_of}
 use Rattle.rpki_sigobj.specs.Signed.Kind.{ObjectKind}
 use Rattle.rpki_check.specs.Attestation.{GrantsOn, IsAttestationFound, IsAttestationSaid}
 use Rattle.rpki_check.specs.Attestation.{IsGrantedIn, IsRefusedByList, IsRevokedOf, supply_on}
-use Rattle.rpki_check.specs.Calls.{IsObjectCall}
 use Rattle.rpki_check.specs.Decided.{EditionTells, FilesTell, IsGrantDecided, IsGrantedFor}
 use Rattle.rpki_check.specs.Decided.{IsSurelyGranted, ObjectTells, ObjectsTell, RowsTell, Tells}
 use Rattle.rpki_check.specs.Decided.{TellsAsked, TellsGood, TellsGranted}
@@ -43,10 +42,10 @@ use Rattle.rpki_check.specs.Edition.{IsEditionPut}
 use Rattle.rpki_check.specs.Files.{AreFilesPut, Named}
 use Rattle.rpki_check.specs.Grounds.{AreGroundsOf, AreSame, manner_in}
 use Rattle.rpki_check.specs.Kinds.{AsksFor, OfAsked}
-use Rattle.rpki_check.specs.Many.{IsGrantStatus, IsManyCall, IsStatusAs, IsStatusOn}
+use Rattle.rpki_check.specs.Many.{IsGrantStatus, IsStatusAs, IsStatusOn}
 use Rattle.rpki_check.specs.Numbers.{check_number, no_kind, no_memory, refusal_number, status_of}
 use Rattle.rpki_check.specs.Object.{IsFound, IsGoodFor}
-use Rattle.rpki_check.specs.Report.{IsReported, IsSaid}
+use Rattle.rpki_check.specs.Report.{IsSaid}
 use Rattle.rpki_check.specs.Rows.{IsPut}
 use Rattle.rpki_check.specs.declared.edition.Edition.{Edition}
 use Rattle.rpki_check.specs.declared.files.Entry.{Entry}

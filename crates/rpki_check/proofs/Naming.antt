@@ -1,6 +1,6 @@
 -- Which kind an object names.
 use Rattle.std.proofs.Common.{◌≡◌, ◌∙◌, ℕ, List, Option, None, Some, Result, Ok, Err, inl, inr}
-use Rattle.std.proofs.Common.{[], ◌∷◌, ap, get_or, refl, subst, sym}
+use Rattle.std.proofs.Common.{ap, get_or, refl, subst, sym}
 use Rattle.std.specs.Prelude.{MatchOption, nat_eq, if◌then◌else◌}
 use Rattle.rpki_der.specs.declared.mode.Mode.{Mode}
 use Rattle.rpki_der.specs.Form.Decodes.{IsOnlyFront}

@@ -30,7 +30,7 @@ use Rattle.rpki_crls.specs.Crl.{CrlForm, KeptCrl}
 use Rattle.rpki_rsa.specs.Signature.{is_rsa_signature}
 use Rattle.rpki_sigobj.proofs.Wholes.Numbers.{same-numbers}
 use Rattle.rpki_check.specs.Grounds.{AreGroundsOf, AreLists, AreSame, HasNoGrounds, IsIssuerOf}
-use Rattle.rpki_check.specs.Grounds.{IsListing, IsNextCa, Leads, moment_in}
+use Rattle.rpki_check.specs.Grounds.{IsNextCa, Leads, moment_in}
 use Rattle.rpki_check.specs.Numbers.{issuer_number, no_memory, refusal_number}
 use Rattle.rpki_check.specs.Revoked.{IsList, IsUnrevoked}
 use Rattle.rpki_check.specs.declared.grounds.Grounds.{Grounds}
@@ -250,15 +250,6 @@ not-lists (x ∷ octets) (y ∷ lists) zero o l e none ((m, (r, front)), h) =
     subst (λ (z : Octets). HasNoFront (CrlForm Der) z.octets.now) (sym e) none y.list r front.found
 not-lists (x ∷ octets) (y ∷ lists) (suc k) o l e none h =
     not-lists octets lists k o (omega (arith, l)) e none h.1
-
--- why octets begin with no lists is why a question has no grounds
-pub unlisted : (q : Question) (refusal : Refusal) → IsMoment (moment_in q.moment)
-    → IsListing q.lists.now (Err refusal) → HasNoGrounds q refusal
-unlisted q Memory is h = tt
-unlisted q NoList is h = (is, h)
-unlisted q NoMoment is h = absurd h
-unlisted q (Issuer fault) is h = absurd h
-unlisted q (Check fault) is h = h
 
 -- ---- grounds
 
