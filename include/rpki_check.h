@@ -1,18 +1,16 @@
-/* rpki_check.h - checks of signed objects of the RPKI, by proved code; link with -lrpki_check,
- * librpki_check.so.0 or librpki_check.a.
+/* rpki_check.h - checks of signed objects of the RPKI, by proved code, on Linux on x86-64.
+ * Link with -lrpki_check, which is librpki_check.so.1 or librpki_check.a.
  *
- * A call reads what it is lent, writes into what it is lent, and keeps nothing:
- * there is no state, nothing to set up and nothing to free. Calls may run in
- * several threads at once. A call allocates by malloc and realloc, and frees all
- * of it before it returns; if memory runs out it answers RPKI_NO_MEMORY. It reads
- * no file, no clock and no environment, prints nothing, and never aborts. Call
- * none from a signal handler.
+ * A call reads what it is lent, writes into what it is lent, and keeps nothing: there is no
+ * state, nothing to set up and nothing to free. Calls may run in several threads at once. A call
+ * allocates by malloc and realloc, and frees all of it before it returns; if memory runs out it
+ * answers RPKI_NO_MEMORY. It reads no file, no clock and no environment, prints nothing, and
+ * never aborts. Call none from a signal handler.
  *
- * What C has to see to: each pointer leads to as many items as its length or room
- * says (octets of a text, rows of others), or is NULL if that is 0; question, edition,
- * length and count are not NULL; what a call writes overlaps nothing else that it
- * is given; nobody changes what it reads while it runs; and there are 128 KiB of
- * stack. Octets may be any octets, and numbers any numbers. */
+ * What C has to see to: each pointer leads to as many items as its length or room says (octets of
+ * a text, rows of others), or is NULL if that is 0; question, edition, length and count are not
+ * NULL; what a call writes overlaps nothing else that it is given; nobody changes what it reads
+ * while it runs; and there are 128 KiB of stack. Octets may be any, and numbers too. */
 #ifndef RPKI_CHECK_H
 #define RPKI_CHECK_H
 
@@ -23,19 +21,20 @@
 extern "C" {
 #endif
 
-/* The library has these calls if its upper 16 bits are the same and its lower 16 are
- * no smaller. */
+/* The library has these calls if the upper 16 bits of its version are the same, which are the
+ * number of librpki_check.so.1, and the lower 16 are no smaller. */
 #define RPKI_CHECK_VERSION 0x00010000
 uint32_t rpki_check_version(void);
 
-/* What a call answers: 0, or the number of a refusal, which stays as it is. Beside
- * each is its text. */
+/* What a call answers: 0, or the number of a refusal, which stays as it is. Beside each is its
+ * text. */
 enum rpki_status {
 	RPKI_GOOD = 0,          /* the octets begin with a good object */
 	RPKI_NO_MEMORY = 1,     /* memory ran out: nothing is said of the octets; the text is
 	                         * "out of memory", or none where memory lacked for it */
 	RPKI_NO_MOMENT = 2,     /* "no such moment": the date is none */
-	RPKI_NO_KIND = 3,       /* no kind has this number, or the object names none: no text */
+	RPKI_NO_KIND = 3,       /* no kind has this number, or for kind 0 the octets begin with no
+	                         * object, or with one that names no kind: there is no text */
 	RPKI_NO_LIST = 4,       /* "no revocation list": one of the lists is none */
 	RPKI_MALFORMED = 100,   /* "malformed", or a rule of the format that is broken:
 	                         * the octets begin with no object of the kind */
@@ -76,7 +75,7 @@ enum rpki_status {
 	RPKI_EMPTY_AS = 312,             /* EE certificate contains empty AS resources */
 	RPKI_SEVERAL_AS_BLOCKS = 313,    /* EE certificate contains multiple AS resource blocks */
 	RPKI_AS_RANGE = 314,             /* EE certificate contains AS resource with range */
-	RPKI_OTHER_CUSTOMER = 315,       /* EE certificate does not contain customer AS in AS resources */
+	RPKI_OTHER_CUSTOMER = 315, /* EE certificate does not contain customer AS in AS resources */
 	RPKI_IP_RESOURCES = 316,         /* EE certificate is contains IP resources */
 	RPKI_CUSTOMER_NOT_HELD = 317,    /* customer AS not held */
 	RPKI_NO_V4_COVERED = 318,        /* no IPv4 ROA prefix covered by certificate */
@@ -93,14 +92,14 @@ enum rpki_status {
 	RPKI_UNUSED_EE_CERTIFICATES = 329, /* unused EE certificates */
 	RPKI_INVALID_CA_CERTIFICATES = 330, /* only invalid CA certificates found */
 	RPKI_PATH_RETURNS = 331,         /* path returns */
-	RPKI_CA_REVOKED = 332,           /* CA certificate has been revoked */
+	RPKI_CA_REVOKED = 332,   /* CA certificate has been revoked (1332 for one of a question) */
 	RPKI_UNUSED_CA_CERTIFICATES = 333, /* unused CA certificates */
 	RPKI_NOT_ANCHORED = 334,         /* RTA could not be validated */
 	RPKI_AS_NOT_FULLY_COVERED = 335, /* AS resources not fully covered */
 	RPKI_IP_NOT_FULLY_COVERED = 336, /* IP resources not fully covered */
-	RPKI_REVOKED = 337,              /* refused by the caller (a list revokes its certificate) */
-	/* The certificates of the question make no issuer: 1000 more than the numbers
-	 * above, as 1100 where one is malformed or 1306 where one has expired. */
+	RPKI_REVOKED = 337,      /* refused by the caller (a list revokes its certificate) */
+	/* The certificates of the question make no issuer: 1000 more than the numbers above, as
+	 * 1100 where one is malformed, 1306 where one has expired, 1332 where one is revoked. */
 	RPKI_OF_ISSUER = 1000
 };
 
@@ -117,7 +116,10 @@ enum rpki_kind {
 typedef struct rpki_octets { const uint8_t *at; size_t length; } rpki_octets;
 
 /* A moment in UTC. The year is 0 to 9999, and there is no second 60. */
-typedef struct rpki_moment { uint16_t year; uint8_t month, day, hour, minute, second; } rpki_moment;
+typedef struct rpki_moment {
+	uint16_t year;
+	uint8_t month, day, hour, minute, second;
+} rpki_moment;
 
 /* Under which certificates and lists, when and how is checked. Begin with zeros. */
 typedef struct rpki_question {
@@ -132,37 +134,35 @@ typedef struct rpki_question {
 	uint8_t wide;               /* not 0: up to 16,380 providers, not 10,000 */
 } rpki_question;
 
-/* Checks an object of a kind. The answer is RPKI_GOOD exactly if the certificates
- * make an issuer (RFC 6487, section 7.2), the octets begin with an object of the
- * kind that is good under it at the moment, and no list revokes a certificate of
- * the chain or that of the object; unless memory runs out. Else it is the number of
- * the first check that fails. Octets after the object are ignored. The times of lists
- * are not looked at. Of an attestation, the issuer is the one CA under which it may be
- * granted, and lists count for those of its certificates that this CA issued.
+/* Checks an object of a kind. The answer is RPKI_GOOD exactly if the certificates make an issuer
+ * (RFC 6487, section 7.2), the octets begin with an object of the kind that is good under it at
+ * the moment, and no list revokes a certificate of the chain or that of the object; unless memory
+ * runs out. Else it is the number of the first check that fails. Octets after the object are
+ * ignored. The times of lists are not looked at. Of an attestation, the issuer is the one CA under
+ * which it may be granted, and lists count for those of its certificates that this CA issued.
  *
- * The text is what a good object says, a line an item, as `rpki_verify check` has
- * them below its yes, or why there is none. It is UTF-8 without a 0 at its end.
+ * The text is what a good object says, a line an item, as `rpki_verify check` has them below its
+ * yes, or why there is none. It is UTF-8 without a 0 at its end.
  *
- * *length is always the length of the whole text; it and the room are in octets. The
- * text is written if it fits, and else nothing is: call again with a room of *length,
- * which gives the same answer. A room of NULL and 0 asks for the status alone. */
+ * *length is always the length of the whole text; it and the room are in octets. The text is
+ * written if it fits, and else nothing is: call again with a room of *length, which gives the same
+ * answer. A room of NULL and 0 asks for the status alone. */
 uint32_t rpki_check_object(const rpki_question *question, uint32_t kind, const uint8_t *object,
     size_t object_length, char *text, size_t room, size_t *length);
 
-/* What an object of a kind says, without a check: RPKI_GOOD says only that the octets
- * begin with one. Of the question, the options alone are looked at. The room is in
- * octets. */
+/* What an object of a kind says, without a check: RPKI_GOOD says only that the octets begin with
+ * one. Of the question, the options alone are looked at. The room is in octets. */
 uint32_t rpki_check_show(const rpki_question *question, uint32_t kind, const uint8_t *object,
     size_t object_length, char *text, size_t room, size_t *length);
 
 /* Octets that are to begin with an object of a kind. */
 typedef struct rpki_object { uint32_t kind; rpki_octets octets; } rpki_object;
 
-/* Checks many objects on one question, whose certificates and lists are read once.
- * The answer is RPKI_GOOD with *count = objects_length and a status of each object,
- * as rpki_check_object answers it, or the number of what is wrong with the question
- * with *count = 0. The room is counted in statuses. They are written if all fit, and
- * else none: read them only if the answer is RPKI_GOOD and *count <= room. */
+/* Checks many objects on one question, whose certificates and lists are read once. The answer is
+ * RPKI_GOOD with *count = objects_length and a status of each object, as rpki_check_object answers
+ * it, or the number of what is wrong with the question with *count = 0. The room is counted in
+ * statuses. They are written if all fit, and else none: read them only if the answer is RPKI_GOOD
+ * and *count <= room. */
 uint32_t rpki_check_objects(const rpki_question *question, const rpki_object *objects,
     size_t objects_length, uint32_t *statuses, size_t room, size_t *count);
 
@@ -176,33 +176,33 @@ typedef struct rpki_payload {
 	uint8_t zero;
 } rpki_payload;
 
-/* Checks a ROA, as rpki_check_object does with RPKI_ROA. *count is the number of its
- * prefixes, 0 if it is not good. The room is counted in prefixes; they are written if
- * all fit, IPv4 first, in the order of the ROA, and else none is. */
+/* Checks a ROA, as rpki_check_object does with RPKI_ROA. *count is the number of its prefixes, 0 if
+ * it is not good. The room is counted in prefixes; they are written if all fit, IPv4 first, in the
+ * order of the ROA, and else none is. */
 uint32_t rpki_check_roa(const rpki_question *question, const uint8_t *object,
     size_t object_length, rpki_payload *payloads, size_t room, size_t *count);
 
-/* Checks an ASPA in the same way. The numbers, in which the room is counted, are the
- * customer and then its providers, in ascending order. */
+/* Checks an ASPA in the same way. The numbers, in which the room is counted, are the customer and
+ * then its providers, in ascending order. */
 uint32_t rpki_check_aspa(const rpki_question *question, const uint8_t *object,
     size_t object_length, uint32_t *numbers, size_t room, size_t *count);
 
-/* What a manifest says of itself: when it was made and when the next one is due, as
- * rpki_stamp_of has moments. */
+/* When a manifest was made and when the next one is due: numbers to compare with one another, and
+ * with the rpki_stamp_of of a moment. */
 typedef struct rpki_edition { uint64_t this_update, next_update; } rpki_edition;
 
-/* Checks a manifest in the same way. Its moments are written if it is good, and then its
- * number, in lower hexadecimal, at most 40 digits, if it fits: the room is in octets. */
+/* Checks a manifest in the same way. Its moments are written if it is good, and then its number, in
+ * lower hexadecimal, at most 40 digits, if it fits: the room is in octets. */
 uint32_t rpki_check_edition(const rpki_question *question, const uint8_t *object,
     size_t object_length, rpki_edition *edition, char *number, size_t room, size_t *length);
 
-/* A file of a manifest or a checklist: where its name and its hash stand among the
- * octets that are written with it; named is 0 if a checklist gives no name, and else 1. */
+/* A file of a manifest or a checklist: where its name and its hash stand among the octets that are
+ * written with it; named is 0 if a checklist gives no name, and else 1. */
 typedef struct rpki_file { size_t name, name_length, hash, hash_length, named; } rpki_file;
 
-/* Check a manifest and a checklist in the same way, with two rooms: one, counted in
- * files, for *count of them in their order, and one, counted in octets, for the *length
- * octets in which names and hashes stand. Each is written if all of it fits, else not. */
+/* Check a manifest and a checklist in the same way, with two rooms: one, counted in files, for
+ * *count of them in their order, and one, counted in octets, for the *length octets in which names
+ * and hashes stand. Each is written if all of it fits, else not. */
 uint32_t rpki_check_manifest(const rpki_question *question, const uint8_t *object,
     size_t object_length, rpki_file *files, size_t room, size_t *count, uint8_t *octets,
     size_t octets_room, size_t *length);
@@ -210,17 +210,17 @@ uint32_t rpki_check_checklist(const rpki_question *question, const uint8_t *obje
     size_t object_length, rpki_file *files, size_t room, size_t *count, uint8_t *octets,
     size_t octets_room, size_t *length);
 
-/* Whether a signature of a message is one by RSASSA-PKCS1-v1_5 with SHA-256 by
- * this key, the bits of a subjectPublicKey, of 2048 to 4096 bits with exponent
- * 65537: RPKI_GOOD or RPKI_BAD_SIGNATURE, unless memory runs out. */
+/* Whether a signature of a message is one by RSASSA-PKCS1-v1_5 with SHA-256 by this key, the bits
+ * of a subjectPublicKey, of 2048 to 4096 bits with exponent 65537: RPKI_GOOD or
+ * RPKI_BAD_SIGNATURE, unless memory runs out. */
 uint32_t rpki_check_signature(const uint8_t *key, size_t key_length, const uint8_t *message,
     size_t message_length, const uint8_t *signature, size_t signature_length);
 
 /* A number that grows with time, and is another one for each moment. */
 static inline uint64_t rpki_stamp_of(rpki_moment m)
 {
-	return ((((m.year * UINT64_C(13) + m.month) * 32 + m.day) * 24 + m.hour) * 60 + m.minute) * 60
-	    + m.second;
+	return ((((m.year * UINT64_C(13) + m.month) * 32 + m.day) * 24 + m.hour) * 60
+	    + m.minute) * 60 + m.second;
 }
 
 /* The moment of a time in seconds since 1970; year 10000 (no moment) if it has none. */

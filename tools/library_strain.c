@@ -1,11 +1,14 @@
-/* library_strain MODE FILE ..: the calls of rpki_check.h under strain, for tools/library --strain.
+/* library_strain MODE RELAXED FILE ..: the calls of rpki_check.h under strain, for
+ * tools/library --strain.
  *
- * The files are a trust anchor's certificate, a CA's, a revocation list, and then objects. Modes:
+ * RELAXED is 0, or 1 where objects may be in BER. The files are a trust anchor's certificate, a
+ * CA's, a revocation list, and then objects. Modes:
  *     once     each call once, for valgrind and AddressSanitizer
  *     growth   each allocation of each call is refused in turn
  *     threads  eight threads ask the same at once, for ThreadSanitizer too
  *     stack    all calls in a thread with 128 KiB of stack
- * Prints what is wrong, and at last how many answers were looked at. The status is 1 where one was wrong.
+ * Prints what is wrong, and at last how many answers were looked at. The status is 1 where one was
+ * wrong.
  *
  * Link it with -Wl,--wrap=malloc,--wrap=realloc,--wrap=free. */
 #include "rpki_check.h"
@@ -15,7 +18,8 @@
 #include <stdlib.h>
 #include <string.h>
 
-enum { CALLS = 8, ROOM = 1 << 16, ROUNDS = 20, THREADS = 8, STACK = 128 * 1024, OBJECTS = 16 };
+enum { ROOM = 1 << 16, ROUNDS = 20, THREADS = 8, STACK = 128 * 1024, OBJECTS = 16 };
+enum call { OBJECT, SHOW, ROA, ASPA, MANIFEST, CHECKLIST, MANY, SIGNATURE, EDITION, CALLS };
 
 /* ---- memory: the allocation with this number is refused, and what is open is counted */
 
@@ -58,25 +62,43 @@ static size_t count;
 static long wrong, looked_at;
 static pthread_mutex_t lock = PTHREAD_MUTEX_INITIALIZER;
 
+static uint32_t status_of(int call, const rpki_octets *file, struct answer *a)
+{
+	const uint8_t *at = file->at;
+	size_t size = file->length, *length = &a->lengths[0], *other_length = &a->lengths[1];
+	size_t files_room = ROOM / sizeof(rpki_file), rows_room = ROOM / sizeof(rpki_payload);
+	void *room = a->written, *other = a->written + ROOM;
+
+	switch ((enum call)call) {
+	case OBJECT:
+		return rpki_check_object(&question, RPKI_NAMED, at, size, room, ROOM, length);
+	case SHOW:
+		return rpki_check_show(&question, RPKI_NAMED, at, size, room, ROOM, length);
+	case ROA:
+		return rpki_check_roa(&question, at, size, room, rows_room, length);
+	case ASPA:
+		return rpki_check_aspa(&question, at, size, room, ROOM / sizeof(uint32_t), length);
+	case MANIFEST:
+		return rpki_check_manifest(&question, at, size, room, files_room, length,
+		    other, ROOM, other_length);
+	case CHECKLIST:
+		return rpki_check_checklist(&question, at, size, room, files_room, length,
+		    other, ROOM, other_length);
+	case MANY:
+		return rpki_check_objects(&question, objects, count, room, ROOM / sizeof(uint32_t),
+		    length);
+	case EDITION:
+		return rpki_check_edition(&question, at, size, other, room, ROOM, length);
+	default:
+		return rpki_check_signature(at, size, at, size, at, size);
+	}
+}
+
 static void ask(int call, const rpki_octets *file, struct answer *a)
 {
 	memset(a, 0, sizeof *a);
-	size_t *length = &a->lengths[0];
-	void *room = a->written, *other = a->written + ROOM;
-	const uint8_t *at = file->at;
-	size_t size = file->length;
-
 	counting = 1;
-	a->status = call == 0 ? rpki_check_object(&question, RPKI_NAMED, at, size, room, ROOM, length)
-	    : call == 1 ? rpki_check_show(&question, RPKI_NAMED, at, size, room, ROOM, length)
-	    : call == 2 ? rpki_check_roa(&question, at, size, room, ROOM / sizeof(rpki_payload), length)
-	    : call == 3 ? rpki_check_aspa(&question, at, size, room, ROOM / sizeof(uint32_t), length)
-	    : call == 4 ? rpki_check_manifest(&question, at, size, room, ROOM / sizeof(rpki_file), length,
-	        other, ROOM, &a->lengths[1])
-	    : call == 5 ? rpki_check_checklist(&question, at, size, room, ROOM / sizeof(rpki_file), length,
-	        other, ROOM, &a->lengths[1])
-	    : call == 6 ? rpki_check_objects(&question, objects, count, room, ROOM / sizeof(uint32_t), length)
-	    : rpki_check_signature(at, size, at, size, at, size);
+	a->status = status_of(call, file, a);
 	counting = 0;
 }
 
@@ -92,8 +114,9 @@ static void look(int is_right, const char *what, int call, size_t file, long at)
 /* what may be answered where memory ran out: no row, and no line but that it did */
 static int is_of_memory(int call, const struct answer *a, const struct answer *whole)
 {
-	if (call == 6 && a->status == RPKI_GOOD) {
-		const uint32_t *got = (const void *)a->written, *wanted = (const void *)whole->written;
+	if (call == MANY && a->status == RPKI_GOOD) {
+		const uint32_t *got = (const void *)a->written;
+		const uint32_t *wanted = (const void *)whole->written;
 
 		for (size_t i = 0; i < count; i++)
 			if (got[i] != wanted[i] && got[i] != RPKI_NO_MEMORY)
@@ -101,7 +124,8 @@ static int is_of_memory(int call, const struct answer *a, const struct answer *w
 		return a->lengths[0] == count;
 	}
 	return a->status == RPKI_NO_MEMORY && a->lengths[1] == 0 && (a->lengths[0] == 0
-	    || (call < 2 && a->lengths[0] == 13 && memcmp(a->written, "out of memory", 13) == 0));
+	    || (call <= SHOW && a->lengths[0] == 13
+	    && memcmp(a->written, "out of memory", 13) == 0));
 }
 
 static void refuse_each(int call, size_t file)
@@ -115,7 +139,8 @@ static void refuse_each(int call, size_t file)
 		refused = -1;
 		look(open_blocks == 0, "memory is not freed", call, file, at);
 		if (asked <= at)
-			return look(memcmp(&a, &whole, sizeof a) == 0, "another answer", call, file, at);
+			return look(memcmp(&a, &whole, sizeof a) == 0, "another answer", call, file,
+			    at);
 		look(memcmp(&a, &whole, sizeof a) == 0 || is_of_memory(call, &a, &whole),
 		    "a wrong answer", call, file, at);
 	}
@@ -130,7 +155,8 @@ static void *ask_all(void *rounds)
 			ask(call, &files[file], first);
 			for (int i = 0; i < *(int *)rounds; i++) {
 				ask(call, &files[file], a);
-				look(memcmp(first, a, sizeof *a) == 0, "another answer", call, file, -1);
+				look(memcmp(first, a, sizeof *a) == 0, "another answer", call,
+				    file, -1);
 			}
 		}
 	free(first);
@@ -170,14 +196,15 @@ static rpki_octets octets_of(const char *path)
 
 int main(int argc, char **argv)
 {
-	if (argc < 6 || argc > 5 + OBJECTS)
-		return fputs("library_strain MODE ANCHOR CA LIST FILE ..\n", stderr), 2;
-	question.anchor = octets_of(argv[2]);
-	chain[0] = octets_of(argv[3]), lists[0] = octets_of(argv[4]);
+	if (argc < 7 || argc > 6 + OBJECTS)
+		return fputs("library_strain MODE RELAXED ANCHOR CA LIST FILE ..\n", stderr), 2;
+	question.relaxed = argv[2][0] == '1';
+	question.anchor = octets_of(argv[3]);
+	chain[0] = octets_of(argv[4]), lists[0] = octets_of(argv[5]);
 	question.chain = chain, question.chain_length = 1;
 	question.lists = lists, question.lists_length = 1;
 	question.moment = (rpki_moment){ 2027, 1, 1, 0, 0, 0 };
-	for (int i = 5; i < argc; i++, count++)
+	for (int i = 6; i < argc; i++, count++)
 		objects[count] = (rpki_object){ RPKI_NAMED, files[count] = octets_of(argv[i]) };
 	if (strcmp(argv[1], "once") == 0)
 		ask_all(&(int){ 1 });

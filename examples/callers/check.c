@@ -13,10 +13,8 @@ static rpki_octets octets_of(const char *path)
 	uint8_t *at = NULL;
 	size_t got;
 
-	if (file == NULL) {
-		perror(path);
-		exit(4);
-	}
+	if (file == NULL)
+		perror(path), exit(4);
 	do {
 		if ((at = realloc(at, octets.length + 65536)) == NULL)
 			exit(3);
@@ -36,7 +34,7 @@ int main(int argc, char **argv)
 	char *text, address[INET6_ADDRSTRLEN];
 	rpki_payload *rows;
 	size_t length = 0, room, count = 0;
-	uint32_t status;
+	uint32_t kind, status;
 
 	if (argc < 5 || argc > 20 || sscanf(argv[3], "%4u%2u%2u%2u%2u%2uZ", &date[0], &date[1],
 	    &date[2], &date[3], &date[4], &date[5]) != 6)
@@ -50,11 +48,11 @@ int main(int argc, char **argv)
 	    (uint8_t)date[3], (uint8_t)date[4], (uint8_t)date[5] };
 
 	/* how long the text is, and then the text */
-	rpki_check_object(&question, (uint32_t)atoi(argv[1]), object.at, object.length, NULL, 0, &length);
+	kind = (uint32_t)atoi(argv[1]);
+	rpki_check_object(&question, kind, object.at, object.length, NULL, 0, &length);
 	if ((text = malloc((room = length) + 1)) == NULL)
 		return 3;
-	status = rpki_check_object(&question, (uint32_t)atoi(argv[1]), object.at, object.length,
-	    text, room, &length);
+	status = rpki_check_object(&question, kind, object.at, object.length, text, room, &length);
 	length = length > room ? 0 : length;    /* memory may run out in between */
 	printf("%u\n%.*s\n", status, (int)length, text);
 
@@ -65,6 +63,7 @@ int main(int argc, char **argv)
 	rpki_check_roa(&question, object.at, object.length, rows, count, &count);
 	for (size_t i = 0; i < count; i++)
 		printf("origin %s/%d-%d\n", inet_ntop(rows[i].family == 4 ? AF_INET : AF_INET6,
-		    rows[i].address, address, sizeof address), rows[i].prefix_length, rows[i].max_length);
+		    rows[i].address, address, sizeof address), rows[i].prefix_length,
+		    rows[i].max_length);
 	return status != RPKI_GOOD;
 }

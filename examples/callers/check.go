@@ -1,4 +1,4 @@
-// check KIND FILE MOMENT TA [CA ..]: the status of an object, its text, and the rows of a ROA, as check.c.
+// check KIND FILE MOMENT TA [CA ..]: the status of an object, its text, and the rows of a ROA.
 package main
 
 // #cgo LDFLAGS: -lrpki_check
@@ -40,8 +40,10 @@ func main() {
 		chain[i] = octetsOf(path)
 	}
 	part := func(at int) C.uint8_t { return C.uint8_t(number(moment[at : at+2])) }
-	question := C.rpki_question{anchor: octetsOf(words[3]), chain: &chain[0], chain_length: C.size_t(len(words) - 4)}
-	question.moment = C.rpki_moment{year: C.uint16_t(number(moment[:4])), month: part(4), day: part(6), hour: part(8), minute: part(10), second: part(12)}
+	question := C.rpki_question{anchor: octetsOf(words[3]), chain: &chain[0]}
+	question.chain_length = C.size_t(len(words) - 4)
+	question.moment = C.rpki_moment{year: C.uint16_t(number(moment[:4])), month: part(4),
+		day: part(6), hour: part(8), minute: part(10), second: part(12)}
 	// how long the text is, and then the text
 	var length, count C.size_t
 	C.rpki_check_object(&question, kind, object.at, object.length, nil, 0, &length)
@@ -57,10 +59,8 @@ func main() {
 	rows := make([]C.rpki_payload, count+1)
 	C.rpki_check_roa(&question, object.at, object.length, &rows[0], count, &count)
 	for _, row := range rows[:count] {
-		octets := C.GoBytes(unsafe.Pointer(&row.address), 16)
-		if row.family == 4 {
-			octets = octets[:4]
-		}
+		size := map[C.uint8_t]C.int{4: 4, 6: 16}[row.family]
+		octets := C.GoBytes(unsafe.Pointer(&row.address), size)
 		address, _ := netip.AddrFromSlice(octets)
 		fmt.Printf("origin %s/%d-%d\n", address, row.prefix_length, row.max_length)
 	}

@@ -18,8 +18,10 @@ class Moment(ctypes.Structure):
 
 
 class Question(ctypes.Structure):
-    _fields_ = [("anchor", Octets), ("chain", ctypes.POINTER(Octets)), ("chain_length", ctypes.c_size_t),
-                ("lists", ctypes.POINTER(Octets)), ("lists_length", ctypes.c_size_t), ("moment", Moment)] + [
+    _fields_ = [("anchor", Octets),
+                ("chain", ctypes.POINTER(Octets)), ("chain_length", ctypes.c_size_t),
+                ("lists", ctypes.POINTER(Octets)), ("lists_length", ctypes.c_size_t),
+                ("moment", Moment)] + [
         (option, ctypes.c_uint8) for option in ("relaxed", "registered", "wide")]
 
 
@@ -49,7 +51,8 @@ def main(kind, path, moment, *certs):
     date = Moment(int(moment[:4]), *(int(moment[i:i + 2]) for i in range(4, 14, 2)))
     question = Question(lent[1], chain, len(chain), None, 0, date)
     asked, size = ctypes.byref(question), ctypes.c_size_t(len(octets[0]))
-    status, text = room(LIBRARY.rpki_check_object, ctypes.c_char, asked, ctypes.c_uint32(int(kind)), octets[0], size)
+    status, text = room(LIBRARY.rpki_check_object, ctypes.c_char, asked, ctypes.c_uint32(int(kind)),
+                        octets[0], size)
     print(f"{status}\n{text.decode()}")
     _, rows = room(LIBRARY.rpki_check_roa, Payload, asked, octets[0], size)
     for row in rows:

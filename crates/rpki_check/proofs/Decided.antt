@@ -117,7 +117,7 @@ issuer-nonzero (issuing.Validation validation.Memory) e = absurd cc
 issuer-nonzero (issuing.Validation (validation.Inspection fault)) e = absurd (omega (arith, e))
 issuer-nonzero (issuing.Validation (validation.Verification fault)) e = absurd (omega (arith, e))
 
-nonzero : (refusal : Refusal) → refusal_number refusal ≡ 0 → ⊥
+pub nonzero : (refusal : Refusal) → refusal_number refusal ≡ 0 → ⊥
 nonzero Memory e = absurd cc
 nonzero NoMoment e = absurd cc
 nonzero NoList e = absurd cc
@@ -126,7 +126,7 @@ nonzero (Check fault) e = check-nonzero fault e
 
 -- ---- what lists say
 
-memory-number : (fault : CheckError) → IsMemory fault → check_number fault ≡ no_memory
+pub memory-number : (fault : CheckError) → IsMemory fault → check_number fault ≡ no_memory
 memory-number (checking.Decode fault) e =
     ap (λ (d : DecodeError). check_number (checking.Decode d)) e
 memory-number (checking.Validation fault) e =

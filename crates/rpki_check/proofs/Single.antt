@@ -274,7 +274,8 @@ module _ (q : Question) where
       → ¬ (refusal_number refusal ≡ no_memory) → (g : Grounds) → ¬ AreGroundsOf q g
   not-refused Memory h m g a = m refl
   not-refused NoMoment h m g a = h (subst IsMoment a.moment a.is_moment)
-  not-refused NoList (k, o, l, e, none) m g a = not-lists q.lists.now g.lists.items k o l e none a.lists
+  not-refused NoList (is, (k, o, l, e, none)) m g a =
+      not-lists q.lists.now g.lists.items k o l e none a.lists
   not-refused (Issuer fault) h m g a =
       m (issuer-not g.lists.items (moment_in q.moment) q.anchor.now q.chain.now g.issuer fault
       (subst (λ (t : Moment). IsIssuerOf g.lists.items t q.anchor.now q.chain.now (Ok g.issuer))

@@ -101,11 +101,12 @@ pub record HasNoIssuer (q : Question) (fault : IssuerError) : Type 0 where
   pub are_lists : AreLists q.lists.now lists
   pub made : IsIssuerOf lists (moment_in q.moment) q.anchor.now q.chain.now (Err fault)
 
--- Why a question has no grounds, unless memory ran out: there is no such moment, one of its lists is
--- none, or its certificates make no issuer.
+-- Why a question has no grounds, unless memory ran out: there is no such moment; or there is, and one
+-- of its lists is none; or both are there, and its certificates make no issuer.
 abbrev pub HasNoGrounds : Question → Refusal → Type 0
 HasNoGrounds q NoMoment = IsMoment (moment_in q.moment) → ⊥
-HasNoGrounds q NoList = Any (λ o. HasNoFront (CrlForm Der) o.octets.now) q.lists.now
+HasNoGrounds q NoList = IsMoment (moment_in q.moment)
+    × Any (λ o. HasNoFront (CrlForm Der) o.octets.now) q.lists.now
 HasNoGrounds q (Issuer fault) = HasNoIssuer q fault
 HasNoGrounds q Memory = Unit {0}
 HasNoGrounds q other = ⊥

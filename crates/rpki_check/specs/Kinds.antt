@@ -58,10 +58,12 @@ abbrev pub asked_code : Asked → ℕ
 asked_code (Object k) = kind_code k
 asked_code Attestation = attestation_code
 
--- The object at the front of the octets names what is asked for.
+-- The object at the front of the octets names what is asked for: an attestation only where it names
+-- no kind of one signer.
 abbrev pub IsNamedBy : Mode → List ℕ → Asked → Type 0
 IsNamedBy mode octets (Object k) = Names mode octets k
-IsNamedBy mode octets Attestation = NamesAttestation octets
+IsNamedBy mode octets Attestation =
+    NamesAttestation octets × ((k : Kind) → Names mode octets k → ⊥)
 
 -- A number asks for this: it is its number; or it is 0, and the object at the front of the octets
 -- names it.

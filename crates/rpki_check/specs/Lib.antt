@@ -1,5 +1,6 @@
 pub mod Attestation
 pub mod Calls
+pub mod Decided
 pub mod Edition
 pub mod Files
 pub mod Grounds

@@ -24,7 +24,7 @@ payload_of asn a = record {
   address = to_be_bytes w128 a.address.prefix.addr;
   asn = asn;
   family = family_number a.family;
-  length = a.address.prefix.len;
+  prefix_length = a.address.prefix.len;
   max_length = unwrap_or a.address.max_length a.address.prefix.len;
   zero = 0;
 }

@@ -67,8 +67,8 @@ pub extern "C" fn rpki_check_signature(
 }
 
 /// Whether octets begin with a good object of a kind, or with a multi-signed attestation that is
-/// granted, where the issuer that the certificates make is the CA that is supplied. The text is what
-/// the object says, or why there is none.
+/// granted, where the issuer that the certificates make is the CA that is supplied. The text is
+/// what the object says, or why there is none.
 #[unsafe(no_mangle)]
 pub extern "C" fn rpki_check_object(
     alloc: Global,
@@ -156,8 +156,8 @@ pub extern "C" fn rpki_check_edition(
     room: &mut [u8],
     len: &mut usize,
 ) -> u32
-    ensures { IsEditionCall question.now object.now edition.old edition.new room.old room.new len.new
-        result }
+    ensures { IsEditionCall question.now object.now edition.old edition.new room.old room.new
+        len.new result }
 {
     edition_in(alloc, question, object, edition, room, len)
 }

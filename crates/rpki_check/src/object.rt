@@ -115,7 +115,8 @@ pub fn found_in<T: Lines>(
 
 /// What is read of octets, without a check.
 pub fn read_object<T: Lines>(alloc: Global, octets: &[u8], manner: Manner) -> Result<T, Refusal>
-    ensures { IsObjectRead T.kind (T.form (T.rule_in manner)) (mode_of manner.strict) octets.now result }
+    ensures { IsObjectRead T.kind (T.form (T.rule_in manner)) (mode_of manner.strict) octets.now
+        result }
 {
     let rule = T::rule(manner);
     let Ok(source) = Bytes::copy_from_slice(alloc, octets) else {

@@ -153,7 +153,8 @@ fn show_kind(
     len: &mut usize,
 ) -> u32
     ensures { OfKind manner kind (λ X asked form lines.
-        IsShown asked form lines (mode_of manner.strict) octets.now room.old room.new len.new result) }
+        IsShown asked form lines (mode_of manner.strict) octets.now room.old room.new len.new
+        result) }
 {
     match kind {
         Kind::Roa => show::<RouteOriginAttestation>(alloc, manner, octets, room, len),

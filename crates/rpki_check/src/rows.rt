@@ -31,7 +31,7 @@ pub struct Payload {
     /// 4 or 6.
     pub family: u8,
     /// The length of the prefix, in bits.
-    pub length: u8,
+    pub prefix_length: u8,
     /// The maximum length, or the length where there is none.
     pub max_length: u8,
     /// 0.
@@ -47,7 +47,7 @@ fn payload_of(asn: u32, address: FriendlyRoaIpAddress) -> Payload
         address: prefix.addr().to_bits().to_be_bytes(),
         asn,
         family: family_number(address),
-        length: prefix.addr_len(),
+        prefix_length: prefix.addr_len(),
         max_length: address.max_length(),
         zero: 0,
     }

@@ -129,7 +129,7 @@ fn rows_are_those_of_the_content(rt: HostRuntime) {
         address: [7; 16],
         asn: 7,
         family: 7,
-        length: 7,
+        prefix_length: 7,
         max_length: 7,
         zero: 7,
     }; 3];
@@ -137,7 +137,7 @@ fn rows_are_those_of_the_content(rt: HostRuntime) {
     let status = rpki_check_roa(rt.alloc(), &question, ORIGIN, &mut rows, &mut count);
     assert_eq!(rt; (status, count), (0, 2));
     assert_eq!(rt;
-        (rows[0].asn, rows[0].family, rows[0].length),
+        (rows[0].asn, rows[0].family, rows[0].prefix_length),
         (64496, 4, 24)
     );
     assert_eq!(rt;

@@ -7,6 +7,7 @@ use Rattle.rpki_routes.specs.Aspa.Checks.{aspa_kind}
 use Rattle.rpki_routes.specs.Aspa.Form.{AspaForm}
 use Rattle.rpki_routes.specs.Roa.Checks.{roa_kind}
 use Rattle.rpki_routes.specs.Roa.Form.{RoaForm}
+use Rattle.rpki_check.proofs.Answered.{grants-decide}
 use Rattle.rpki_check.proofs.Decided.{decided}
 use Rattle.rpki_check.proofs.laws.statuses_decide.Goals as goal
 
@@ -21,3 +22,6 @@ returns-clause-manifests c = λ rule. decided manifest_kind (ManifestForm rule D
 
 pub returns-clause-checklists : goal.returns-clause-checklists
 returns-clause-checklists c = decided checklist_kind (ChecklistForm Der)
+
+pub returns-clause-attestations : goal.returns-clause-attestations
+returns-clause-attestations c = grants-decide
