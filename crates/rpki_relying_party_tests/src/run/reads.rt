@@ -17,19 +17,20 @@ use std::cell::Cell;
 static ROWS: [(u64, [u32; 13]); 9] = [
     // there is room for each place at its first try
     (8_589_934_592, [1, 0, 0, 1, 1, 1, 1, 1, 1, 1, 1, 1, 1]),
-    // the point of the trust anchor costs 59,529, of which 304 are for the 19 octets of the URI of
-    // its list; of what is left, tries of `a` take 2,295, the last of them with room to look for its
-    // manifest of 1,011 octets, and those of `b`, which has none, 2,167; so at the next try of `a`
-    // there is just as much room as its manifest costs, or one less
-    (66_026, [1, 0, 0, 1, 1, 1, 1, 1, 1, 0, 1, 0, 0]),
-    (66_025, [1, 0, 0, 1, 1, 1, 1, 1, 1, 0, 0, 0, 0]),
+    // the point of the trust anchor costs 62,601, of which 304 are for the 19 octets of the URI of
+    // its list, and 3,072 for the three blocks that `a` and `b` claim; of what is left, tries of `a`
+    // take 2,295, the last of them with room to look for its manifest of 1,011 octets, and those of
+    // `b`, which has none, 2,167; so at the next try of `a` there is just as much room as its
+    // manifest costs, or one less
+    (69_098, [1, 0, 0, 1, 1, 1, 1, 1, 1, 0, 1, 0, 0]),
+    (69_097, [1, 0, 0, 1, 1, 1, 1, 1, 1, 0, 0, 0, 0]),
     // `x.roa` comes last in that point: 1,024, 16 for each of the 38 octets of its URI and of
     // the manifest's, and its 4 octets
-    (59_529, [1, 0, 0, 1, 1, 1, 1, 1, 1, 0, 0, 0, 0]),
-    (59_528, [1, 0, 0, 1, 1, 1, 1, 1, 0, 0, 0, 0, 0]),
+    (62_601, [1, 0, 0, 1, 1, 1, 1, 1, 1, 0, 0, 0, 0]),
+    (62_600, [1, 0, 0, 1, 1, 1, 1, 1, 0, 0, 0, 0, 0]),
     // and 2,048 before it, for the address of `t.roa`, once its 820 octets are read
-    (55_845, [1, 0, 0, 1, 1, 1, 1, 1, 0, 0, 0, 0, 0]),
-    (55_844, [1, 0, 0, 1, 1, 1, 1, 0, 0, 0, 0, 0, 0]),
+    (58_917, [1, 0, 0, 1, 1, 1, 1, 1, 0, 0, 0, 0, 0]),
+    (58_916, [1, 0, 0, 1, 1, 1, 1, 0, 0, 0, 0, 0, 0]),
     // the manifest of the trust anchor costs 2,126
     (2_126, [1, 0, 0, 0, 1, 0, 0, 0, 0, 0, 0, 0, 0]),
     (2_125, [1, 0, 0, 0, 0, 0, 0, 0, 0, 0, 0, 0, 0]),

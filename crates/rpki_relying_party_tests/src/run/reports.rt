@@ -87,7 +87,7 @@ static ROWS: [(Asked, Wanted); 17] = [
         Wanted::Reported(NO_CSV, "refused one: not read: limit reached\n", 1),
     ),
     (
-        (Format::Lines, 2027, 61_400, &["one.tal"], &[LOCATOR]),
+        (Format::Lines, 2027, 64_472, &["one.tal"], &[LOCATOR]),
         Wanted::Reported(
             "origin AS65100 192.0.2.0/24\n",
             "refused rsync://h/m/t/t.mft: not read: 2 CAs, limit reached \
