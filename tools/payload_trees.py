@@ -979,6 +979,44 @@ def deep_folder(t, count):
     empty_files(t, count, folder=f"rsync://{HOST}/m/" + f"{'h' * 55}/" * 61)
 
 
+def refused_below_many(t, count, add):
+    """A certificate that another key signed, which a CA with so many manifests lists."""
+    h = hostile(t)
+    x = t.ca("x", [PLACE], (), h)
+    y = Ca("y", make.Claim([PLACE], []), x)
+    add(x, y)
+    manifests = certify_again(t, h, x, count)
+    t.says(A + C + B, *((f"{x.folder}y.cer", FORGED, it) for it in manifests))
+
+
+def many_extensions(t, count):
+    """A certificate of 100,000 extensions that nobody knows. It takes time: each is looked up among those
+    before it, and twice, since a certificate that is refused is read again to see whose it is."""
+    arcs = (bytes([0x2A, 0x81, 0x80 | at >> 14, 0x80 | at >> 7 & 127, at & 127]) for at in range(100_000))
+    more = b"".join(make.sequence(make.value(6, it), make.octet_string(b"")) for it in arcs)
+    refused_below_many(t, count, lambda x, y: x.add("y.cer", y.certificate(x, more=more, by=t.b.signer)))
+
+
+def same_claims(t, count):
+    """A certificate that claims one prefix 250,000 times. It takes time: all are sorted, and joined to one."""
+    said = make.sequence(addresses(1, make.prefix(PLACE) * 250_000))
+    more = make.extension("1.3.6.1.5.5.7.1.7", True, said)
+
+    def add(x, y):
+        y.claim = make.Claim([], [])
+        x.add("y.cer", y.certificate(x, more=more, by=t.b.signer))
+    refused_below_many(t, count, add)
+
+
+def one_folder(t, count):
+    """So many files of which nothing is said in one folder, of a CA with 20 manifests more."""
+    h = hostile(t)
+    x = t.ca("x", [PLACE], (), h)
+    x.files |= {f"{at}.gbr": b"" for at in range(count)}
+    certify_again(t, h, x, 20)
+    t.says(A + C + B)
+
+
 # So many MiB of memory a run may take, where the hostile part of a tree spends the whole limit on the
 # work, as those of the larger trees may; a quarter of that with the others.
 MOST_MEMORY = 1_536
@@ -1018,6 +1056,9 @@ HOSTILE = [
     ("a manifest of many files without its list, below a long URI", no_list, 4_000, 100, 60_000),
     ("a manifest that lists a long name twice, of a CA that is certified many times", named_twice, 10, 3, 100),
     ("a revocation list with a long name, of a CA that is certified many times", lost_list, 10, 3, 100),
+    ("a certificate of many extensions, which many CAs list", many_extensions, 20, 3, 200),
+    ("a certificate that claims one prefix many times, which many CAs list", same_claims, 20, 3, 200),
+    ("many files in one folder, which many CAs have", one_folder, 1_000, 20, 10_000),
 ]
 
 
