@@ -1,4 +1,4 @@
-"""Measures `rpki_verify check roa` beside `rpki-client -f` on the same ROAs, for bench/run, and
+"""Measures `rpki_verify check` of a ROA beside `rpki-client -f` on the same ROAs, for bench/run, and
 `rpki_verify check` of many ROAs in one run.
 
 The ROAs have 10 to 100,000 prefixes, and their signers' certificates 2 or 1,000 blocks. All are
@@ -19,6 +19,8 @@ TOP = pathlib.Path(__file__).resolve().parent.parent
 loading = importlib.util.spec_from_file_location("make", TOP / "examples/make.py")
 make = importlib.util.module_from_spec(loading)
 loading.loader.exec_module(make)
+sys.path.append(str(TOP / "tools"))
+import verify_words  # noqa: E402
 
 PROGRAMS = ("rpki_verify",)
 PATH = f"{os.environ['PATH']}:/usr/sbin"
@@ -62,19 +64,20 @@ class Object:
     def words(self, subject):
         """The words that ask a subject whether the object is good."""
         if subject == "rpki-client":
-            words = ["-n", "-d", self.cache, "-t", self.tal, "-f", self.file]
-        else:
-            chain = self.host / "anchor.cer", self.host / "anchor/authority.cer"
-            words = ["check", "roa", self.file, MOMENT, *chain]
-        return list(map(str, words))
+            return list(map(str, ["-n", "-d", self.cache, "-t", self.tal, "-f", self.file]))
+        return check_words(self.host, self.file)
+
+
+def check_words(host, *files):
+    """The words that ask `rpki_verify` for files under the CA of a folder."""
+    chain = host / "anchor.cer", host / "anchor/authority.cer"
+    return verify_words.words("check", *files, chain=chain, at=MOMENT)
 
 
 def words_of_many(more):
     """The words that ask `rpki_verify` for a ROA of two prefixes, and again so many more times."""
     host = TOP / "examples" / make.HOST
-    chain = "--ta", host / "anchor.cer", "--ca", host / "anchor/authority.cer"
-    files = [host / "authority/origin.roa"] * (1 + more)
-    return list(map(str, ["check", "--at", MOMENT, *chain, *files]))
+    return check_words(host, *[host / "authority/origin.roa"] * (1 + more))
 
 
 def objects(folder):

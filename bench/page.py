@@ -1,4 +1,4 @@
-"""Writes docs/BENCHMARKS.md, its picture and four rows of README.md from what bench/run measured.
+"""Writes docs/BENCHMARKS.md and its picture from what bench/run measured.
 
 What is written stands between the lines `<!-- bench/run: NAME -->` and `<!-- bench/run: end -->`.
 Each goal that was missed has to have a cause in bench/README.md, by the words that name it here.
@@ -430,33 +430,6 @@ def sets(it):
     return table(head, rows)
 
 
-def four(it):
-    """The four rows of README, and what is to be known of them."""
-    if not it.times:
-        return ""
-    run = [it.run(subject, 2, MOST, "processor") for subject in ("rpki_verify", "rpki-client")]
-    verdict = [middle(it.of_signed((who, 2048))) for who in ("verdict", "openssl")]
-    read = [it.value("roa", by, TYPICAL) for by in ("library", "plain")]
-    valid = [it.value("validate", by, 1) for by in ("library", "plain")]
-    client = f"`rpki-client -f` {it.times['machine']['client']}"
-    rows = [
-        (f"`rpki_verify check` of a ROA of {MOST:,} prefixes", client,
-         *(one and one * 1e6 for one in run)),
-        ("a verdict on a signature of 2048 bits", "`openssl`, in assembly", *verdict),
-        (f"reading a ROA of {TYPICAL:,} prefixes and going over them", "plain Rust", *read),
-        ("reading and validating a certificate, its signature apart", "plain Rust", *valid),
-    ]
-    rows = table(["what", "this project", "beside", "", "factor"], [
-        [what, time(ours), peer, time(theirs), factor(divided(ours, theirs))]
-        for what, peer, ours, theirs in rows])
-    text = (f"{rows}\n\nTimes are those of the processor; where the factor is below 1, this "
-            "project takes less.")
-    if it.is_rough():
-        text += (f" They are rough: other work took {it.times['others']:.1f} of the "
-                 f"{it.times['machine']['processors']} processors while they were measured.")
-    return text
-
-
 PANELS = (("roa", "Reading a ROA", "prefixes"), ("manifest", "Reading a manifest", "files"),
           ("checklist", "Reading a checklist", "files"),
           ("attestation", "Reading an attestation", "signers' keys"),
@@ -525,14 +498,13 @@ def write(top, found, writes):
         "programs": programs(it), "growth": growth(it), "memory": memory(it),
         "grown": grown(it), "single": single(it), "signatures": signatures(it), "sets": sets(it),
     }
-    pages = {top / "docs/BENCHMARKS.md": parts, top / "README.md": {"four": four(it)}}
     if writes:
-        for path, of_page in pages.items():
-            path.write_text(filled(path.read_text(), of_page))
+        page = top / "docs/BENCHMARKS.md"
+        page.write_text(filled(page.read_text(), parts))
         (top / "docs/benchmarks.svg").write_text(picture(it))
-        print("bench: wrote", *(path.relative_to(top) for path in pages), "docs/benchmarks.svg")
+        print("bench: wrote docs/BENCHMARKS.md docs/benchmarks.svg")
     else:
-        for name, part in {**parts, **pages[top / "README.md"]}.items():
+        for name, part in parts.items():
             print(f"\n{name}\n\n{part}")
     wrong = list(unexplained(it, (top / "bench/README.md").read_text()))
     for line in wrong:

@@ -1,30 +1,10 @@
 # Completes the words of rpki_verify and rpki_objects in bash, 4.0 or later. tools/install puts this
 # file where bash-completion finds it; without that package, write `source FILE` into ~/.bashrc.
 #
-# The calls are those of SYNOPSIS in the manual pages: docs/rpki_verify.1, docs/rpki_objects.1.
-# `tools/completion --check` compares them, and the words below them with the usage text. A word in
-# capitals stands for something that the user chooses; one without a case of its own in
-# _rpki_complete is a file. The settings of `check` and `show` and their files stand in any order.
+# rpki_verify tells its own words: `rpki_verify --options` prints its table of commands and options.
+# The calls of rpki_objects are those of SYNOPSIS in docs/rpki_objects.1, to which
+# `tools/completion --check` holds them; a word in capitals stands for what the user chooses.
 
-_rpki_verify_calls='[--relaxed] [--registered] [--wide] check --ta TA [SETTING ..] FILE ..
-[--relaxed] [--registered] [--wide] show [SETTING ..] FILE ..
-[--relaxed] [--registered] [--wide] check KIND FILE MOMENT TA [CA ..]
-[--relaxed] [--registered] [--wide] walk FILE MOMENT TA [CA ..] with NAME=PATH ..
-[--relaxed] [--registered] [--wide] rta FILE MOMENT ANCHOR ..
-[--relaxed] [--registered] [--wide] verdicts FILE TA [CA ..]
-[--relaxed] [--registered] [--wide] verdicts rta FILE ANCHOR ..
-[--relaxed] [--registered] [--wide] show KIND FILE
-[--relaxed] [--registered] [--wide] content KIND FILE
-[--relaxed] [--registered] [--wide] payloads [--csv | --json] COPY MOMENT TAL [TAL ..]
-[--relaxed] [--registered] [--wide] show rta FILE
-[--relaxed] [--registered] [--wide] show tal FILE
-[--relaxed] [--registered] [--wide] show certificate FILE
-[--relaxed] [--registered] [--wide] show crl FILE
---help
---version'
-# What may stand in any order; what ends in .. may stand again.
-_rpki_check_settings='--ta TA|--ca CA ..|--tal TAL|--crl CRL ..|--at MOMENT|--kind KIND|--json|--relaxed|--registered|--wide|FILE ..'
-_rpki_show_settings='--kind KIND|--json|--relaxed|--registered|--wide|FILE ..'
 _rpki_objects_calls='[--relaxed] [--registered] [--wide] content KIND FILE
 [--relaxed] [--registered] [--wide] show KIND FILE
 [--relaxed] [--registered] [--wide] show rta FILE
@@ -34,9 +14,9 @@ _rpki_objects_calls='[--relaxed] [--registered] [--wide] content KIND FILE
 [--relaxed] [--registered] [--wide] rta FILE MOMENT VERDICTS ANCHOR ..'
 _rpki_kinds='aspa manifest roa rsc'
 _rpki_shown_kinds='rta'
-_rpki_issued_kinds='certificate crl tal'
-_rpki_moment='now'
 _rpki_anchors='tal= ca='
+
+# ---- both
 
 # Puts the words up to the cursor into `words`. (Bash cuts words at = and : too.)
 _rpki_words() {
@@ -56,29 +36,131 @@ _rpki_words() {
     done
 }
 
+# Offers for the word $1 the words $2, and what $3 stands for, if anything.
+_rpki_offer() {
+    local found=$2 line
+    if [[ $3 == ANCHOR && $1 != *=* ]]; then
+        found+=" $_rpki_anchors"
+        compopt -o nospace
+    fi
+    # Where nothing is found here, readline offers files, except after `+o default`.
+    COMPREPLY=($(compgen -W "$found" -- "$1"))
+    case $3 in
+        COPY | FOLDER) compopt +o default -o plusdirs ;;
+        '' | N) compopt +o default ;;
+        ANCHOR) [[ $1 == *=* ]] || compopt +o default ;;
+        *)
+            [[ $found ]] || return 0
+            compopt -o filenames
+            while IFS= read -r line; do
+                COMPREPLY+=("$line")
+            done < <(compgen -f -- "$1")
+            ;;
+    esac
+}
+
+# ---- rpki_verify
+
+# Reads the table: the commands, and of the command $1 its operands, those where no option stands,
+# and of each option its value, how often it stands, and the words that its value may be, if it may
+# not be any.
+_rpki_rows() {
+    local line choice
+    local -a row forms
+    while IFS= read -r line; do
+        # (A tab as IFS would join empty fields.)
+        line=${line//$'\t'/$'\x1f'}
+        IFS=$'\x1f' read -ra row <<<"$line"
+        if ((${#row[@]} == 4)); then
+            commands+=" ${row[0]}"
+            [[ ${row[0]} != "$1" ]] || operands=${row[1]} bare=${row[2]}
+        elif [[ ${row[0]} == "$1" ]]; then
+            values[${row[1]}]=${row[2]} times[${row[1]}]=${row[3]}
+            line=${row[4]// or /,}
+            IFS=, read -ra forms <<<"${line//, /,}"
+            for choice in "${forms[@]}"; do
+                [[ ! $choice =~ ^[a-z-]+$ ]] || choices[${row[1]}]+=" $choice"
+            done
+        fi
+    done < <(rpki_verify --options 2>/dev/null)
+}
+
+# Goes over the words between the command and the cursor: puts the options among them into `stands`,
+# counts the operands, and puts the option whose value is at the cursor into `option`.
+_rpki_gone_past() {
+    local at
+    for ((at = 2; at < ${#words[@]} - 1; at++)); do
+        option=
+        if [[ $ended || ${words[at]} != -?* ]]; then
+            ((++count))
+        elif [[ ${words[at]} == -- ]]; then
+            ended=yes
+        else
+            stands[${words[at]%%=*}]=yes
+            if [[ ${values[${words[at]}]} ]]; then
+                option=${words[at]}
+                ((++at))
+            fi
+        fi
+    done
+    ((at == ${#words[@]})) || option=
+}
+
+# What the operand at the cursor is called.
+_rpki_operand() {
+    local -a forms=($operands)
+    [[ ! $bare || ${stands[--ta]} ]] || ((!count)) || forms=($bare)
+    local last=$((${#forms[@]} - 1))
+    if ((last > 0 && count >= last)) && [[ ${forms[last]} == .. ]]; then
+        echo "${forms[last - 1]}"
+    else
+        echo "${forms[count]}"
+    fi
+}
+
+_rpki_verify() {
+    local commands= operands= bare= option= ended= count=0 found=
+    local -a words
+    local -A values times choices stands
+    _rpki_words
+    local current=${words[${#words[@]}-1]}
+    _rpki_rows "${words[1]}"
+    if ((${#words[@]} == 2)); then
+        _rpki_offer "$current" "$commands --help --version"
+        return
+    fi
+    _rpki_gone_past
+    if [[ ! $option && ! $ended && $current == -*=* ]]; then
+        option=${current%%=*} current=${current#*=}
+    fi
+    if [[ $option ]]; then
+        [[ ! ${choices[$option]} ]] || values[$option]=
+        _rpki_offer "$current" "${choices[$option]}" "${values[$option]}"
+    elif [[ ! $ended && $current == -* ]]; then
+        for option in "${!values[@]}"; do
+            [[ ${stands[$option]} && ${times[$option]} != often ]] || found+=" $option"
+        done
+        _rpki_offer "$current" "$found"
+    else
+        for option in "${!values[@]}"; do
+            [[ $ended || ${stands[$option]} || ${times[$option]} != always ]] || found+=" $option"
+        done
+        _rpki_offer "$current" "$found" "$(_rpki_operand)"
+    fi
+}
+
+# ---- rpki_objects
+
 # Adds to `heads` each word with which the call $1 may begin, then a tab and the rest of the call.
-# What stands in braces may stand in any order.
 _rpki_heads() {
     local optional='^\[([^]]*)\] ?(.*)$' many='^([^ ]+) \.\. ?(.*)$' one='^([^ ]+) ?(.*)$'
-    local unordered='^\{(.*)\}$' word rest
-    local -a parts
-    if [[ $1 =~ $unordered ]]; then
-        IFS='|' read -ra parts <<<"${BASH_REMATCH[1]}"
-        for word in "${parts[@]}"; do
-            rest=$1
-            [[ $word == *' ..' ]] || rest=${1/"$word|"/}
-            word=${word% ..}
-            [[ $word != *' '* ]] || rest="${word#* } $rest"
-            heads+=("${word%% *}"$'\t'"$rest")
-        done
-    elif [[ $1 =~ $optional ]]; then
+    local word rest
+    if [[ $1 =~ $optional ]]; then
         word=${BASH_REMATCH[1]} rest=${BASH_REMATCH[2]}
         if [[ $word == *' ..' ]]; then
             heads+=("${word% ..}"$'\t'"$1")
         else
-            for word in ${word//|/ }; do
-                heads+=("$word"$'\t'"$rest")
-            done
+            heads+=("$word"$'\t'"$rest")
         fi
         _rpki_heads "$rest"
     elif [[ $1 =~ $many ]]; then
@@ -88,13 +170,11 @@ _rpki_heads() {
     fi
 }
 
-# Puts into `heads` what may stand at the cursor in one of the calls $1, a line each.
+# Puts into `heads` what may stand at the cursor in one of the calls.
 _rpki_at_cursor() {
     local at call head
     local -a calls kinds
-    call=${1//--ta TA \[SETTING ..\] FILE ../\{$_rpki_check_settings\}}
-    call=${call//\[SETTING ..\] FILE ../\{$_rpki_show_settings\}}
-    IFS=$'\n' read -rd '' -a calls <<<"$call"
+    IFS=$'\n' read -rd '' -a calls <<<"$_rpki_objects_calls"
     for ((at = 1; at < ${#words[@]}; at++)); do
         heads=()
         for call in "${calls[@]}"; do
@@ -117,59 +197,24 @@ _rpki_at_cursor() {
     done
 }
 
-# Completes the word at the cursor, by the calls $1 and the moment $2.
-_rpki_complete() {
-    local current previous head found='' has_files='' has_folders=''
+_rpki_objects() {
+    local head found= form=
     local -a words heads=()
     _rpki_words
-    _rpki_at_cursor "$1"
-    current=${words[${#words[@]}-1]} previous=${words[${#words[@]}-2]}
+    _rpki_at_cursor
     for head in "${heads[@]}"; do
-        # Of the settings, those that need not be there are offered after a dash alone.
-        [[ $head == --ta$'\t'* || $head != --*{* || $current == -* ]] || continue
         head=${head%%$'\t'*}
         case $head in
             KIND)
                 found+=" $_rpki_kinds"
-                [[ $previous == show || $previous == content || $previous == --kind ]] &&
-                    found+=" $_rpki_shown_kinds"
-                [[ $previous == --kind && " ${words[*]} " == *' show '* ]] &&
-                    found+=" $_rpki_issued_kinds"
+                [[ ${words[${#words[@]}-2]} == check ]] || found+=" $_rpki_shown_kinds"
                 ;;
-            MOMENT) found+=" $2" ;;
-            ANCHOR)
-                if [[ $current == *=* ]]; then
-                    has_files=yes
-                else
-                    found+=" $_rpki_anchors"
-                    compopt -o nospace
-                fi
-                ;;
-            COPY) has_folders=yes ;;
-            [[:upper:]]*) has_files=yes ;;
+            MOMENT) found+=" $(date -u +%Y%m%d%H%M%SZ)" ;;
+            [[:upper:]]*) form=$head ;;
             *) found+=" $head" ;;
         esac
     done
-    # Where nothing is found here, readline offers files, except after `+o default`.
-    COMPREPLY=($(compgen -W "$found" -- "$current"))
-    if [[ $has_folders ]]; then
-        compopt +o default -o plusdirs
-    elif [[ ! $has_files ]]; then
-        compopt +o default
-    elif [[ $found ]]; then
-        compopt -o filenames
-        while IFS= read -r head; do
-            COMPREPLY+=("$head")
-        done < <(compgen -f -- "$current")
-    fi
-}
-
-_rpki_verify() {
-    _rpki_complete "$_rpki_verify_calls" "$_rpki_moment"
-}
-
-_rpki_objects() {
-    _rpki_complete "$_rpki_objects_calls" "$(date -u +%Y%m%d%H%M%SZ)"
+    _rpki_offer "${words[${#words[@]}-1]}" "$found" "$form"
 }
 
 complete -o default -F _rpki_verify rpki_verify

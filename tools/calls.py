@@ -129,7 +129,7 @@ def below(top):
     found = {}
     for line in (top / "crates.txt").read_text().split("\n"):
         name, _, words = line.partition("#")[0].partition(":")
-        found[name.strip()] = set().union(*({it} | found.get(it, set()) for it in words.split()))
+        found[" ".join(name.split()[:1])] = set().union(*({it} | found.get(it, set()) for it in words.split()))
     return found
 
 
@@ -138,11 +138,13 @@ def made(top):
     is made, or None."""
     sources, makers = Sources(top), {}
     for crate, others in below(top).items():
-        is_program = (top / "crates" / crate / "src/main.rt").is_file()
-        if is_program or crate.endswith("_tests"):
-            own = [it for it in sources.functions if it.crate == crate]
-            first = [it for it in own if it.name == "main"] if is_program else own
-            for it, maker in sources.made_from(first, others).items():
+        own = [it for it in sources.functions if it.crate == crate]
+        if (top / "crates" / crate / "src/main.rt").is_file():
+            first = [it for it in own if it.name == "main"]
+        else:
+            first = [it for it in own if crate.endswith("_tests") or it.path.name == "tests.rt"]
+        if first:
+            for it, maker in sources.made_from(first, others | {crate}).items():
                 if it not in makers or makers[it].name == "main":
                     makers[it] = maker
     libraries = {it.parent.parent.name for it in top.glob("crates/*/src/lib.rt")} - {*CALLERS}

@@ -62,19 +62,22 @@ fault.
 PROMISES = [
     (
         "A yes of `rpki_verify check`",
-        "Where a run has the status 0, the files of the certificates make an issuer, and under it the "
-        "file begins with a good object of its kind, and with status 1 they make none, or under it the "
-        "file begins with no good object. Signatures are those of RFC 8017.",
+        "Where a run has the status 0, the certificates make an issuer, and under it each file begins "
+        "with a good object of its kind that no list revokes, or with the certificate of a CA, or with a "
+        "current list of the issuer, or is a locator of the trust anchor. What is found of a signed object "
+        "or an attestation decides whether it is good. Signatures are those of RFC 8017.",
         [
-            ("rpki_command", "verify/laws", "checks_are_right", ["yes", "no"]),
+            ("rpki_program", "verify/laws", "a_check_is_a_yes_of_each", ["ensures"]),
+            ("rpki_program", "verify/run", "command", ["ensures"]),
+            ("rpki_validation", "laws", "what_is_found_decides", ["roas", "aspas", "manifests", "checklists", "attestations"]),
             ("rpki_rsa", "laws", "verdicts", ["ensures"]),
         ],
     ),
     (
-        "A yes of `rpki_verify check --ta`",
-        "The same of several files, with a locator and with revocation lists, if the words name them: "
-        "each file begins with a good object that no list revokes.",
-        [("rpki_command", "verify/laws/runs", "checks_with_settings_are_right", ["yes", "no"])],
+        "A yes of `rpki_verify files`",
+        "Where the status is 0, the manifest or the checklist is good, and the folder has each file that it "
+        "lists; where it is 1, one of both does not hold, or the certificates make no issuer.",
+        [("rpki_program", "verify/files", "files", ["ensures"])],
     ),
     (
         "A yes of `rpki_objects check`",
@@ -86,7 +89,10 @@ PROMISES = [
         "Where a run of `rpki_verify rta` has the status 0, the anchors are made, and the file begins "
         "with an attestation that is granted under them; `rpki_objects rta` says the same by a list of "
         "good signatures (`HoldsByList`).",
-        [("rpki_command", "verify/laws", "attestations_are_right", ["yes", "no"])],
+        [
+            ("rpki_program", "verify/rta", "rta", ["ensures"]),
+            ("rpki_command", "laws", "attestations_are_right", ["yes", "no"]),
+        ],
     ),
     (
         "A payload of `rpki_verify payloads`",
@@ -94,13 +100,14 @@ PROMISES = [
         "good object in a good publication point to which a chain of valid, unrevoked certificates "
         "leads. Over a copy that finds one thing for each URI, each payload that is published so is "
         "found, but for those below a place that was left unread. Until a payload expires, it is "
-        "published so. What is printed is the report of the runs under the locators.",
+        "published so. What is printed is the report of the runs under the locators, after local exceptions.",
         [
             ("rpki_relying_party", "laws", "payloads_are_said", ["ensures"]),
             ("rpki_relying_party", "laws", "publications_are_found", ["ensures"]),
             ("rpki_relying_party", "laws", "payloads_hold", ["ensures"]),
             ("rpki_relying_party", "locator", "run_under", ["sound", "complete", "refused", "reads"]),
-            ("rpki_payloads", "party", "RelyingParty for FolderParty", ["says"]),
+            ("rpki_payloads", "report", "report_payloads", ["ensures"]),
+            ("rpki_payloads", "laws", "exceptions_are_applied", ["origins", "providers"]),
         ],
     ),
     (
@@ -116,7 +123,7 @@ PROMISES = [
 
 # The sections: the heading, and the crates, or the files, that it is about.
 SUBJECTS = [
-    ("A yes and a no", ["rpki_command", "rpki_signed", "rpki_show/Kinds", "rpki_show/Options"]),
+    ("A yes and a no", ["rpki_validation", "rpki_program", "rpki_command", "rpki_signed", "rpki_show/Kinds", "rpki_show/Options"]),
     ("Signed objects", ["rpki_sigobj", "rpki_faults", "rpki_attributes"]),
     ("Certificates", ["rpki_certs", "rpki_extensions"]),
     ("Revocation lists", ["rpki_crls"]),
@@ -133,21 +140,19 @@ SUBJECTS = [
     ("DER", ["rpki_der"]),
     (
         "Runs of the programs",
-        ["rpki_cli", "rpki_command/Command", "rpki_command/Verify/Command", "rpki_command/Verify/Runs"]
-        + [f"rpki_command/Yes/{name}" for name in ("check_order", "in_order", "in_order_with", "FilesOfCheck")]
-        + [f"rpki_command/Verify/Yes/{name}" for name in ("verify_order", "verify_rta")],
+        ["rpki_cli", "rpki_command/Command"]
+        + [f"rpki_command/Yes/{name}" for name in ("check_order", "in_order", "in_order_with", "FilesOfCheck")],
     ),
     (
         "What is printed",
-        ["rpki_show", "rpki_json", "rpki_faults/Text", "rpki_der/Text", "rpki_resources/Text", "rpki_cli/Answer"]
-        + ["rpki_payloads/Texts", "rpki_payloads/Payloads", "rpki_payloads/Seconds", "rpki_payloads/Found"]
+        ["rpki_show", "rpki_faults/Text", "rpki_der/Text", "rpki_resources/Text", "rpki_cli/Answer"]
+        + ["rpki_payloads/Texts", "rpki_payloads/Formats", "rpki_payloads/Seconds", "rpki_payloads/Found"]
         + ["rpki_relying_party/Texts", "rpki_relying_party/Names"],
     ),
 ]
 # The definitions whose texts are not on the page, but in their files: what each command does with
-# its words, and what it says of octets in JSON.
-ENDS = {"verify_program", "objects_program", "verify_language", "objects_language", "IsAskedCheck"}
-ENDS |= {"IsTaskDone", "IsAnswer", "aspa_members", "manifest_members", "roa_members", "rsc_members"}
+# its words, what words ask for, and the formats of payloads.
+ENDS = {"objects_program", "objects_language", "AskFor", "payloads_in"}
 # From this section on a definition stands in no place of an earlier one.
 LAST = len(SUBJECTS) - 2
 OTHERS = """\

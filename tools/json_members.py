@@ -1,9 +1,9 @@
-"""What lines of JSON say, and what the lines of the programs come to in JSON: for tools/fuzz and
-tools/verify_runs.
+"""What lines of JSON say, and what the lines of the programs come to in JSON: for tools/fuzz,
+tools/rows and tools/verify_runs.
 
 `values_of` is stricter than Python's json module: a text is in UTF-8, no object has a name twice, at
 any depth (RFC 8259, sections 4 and 8.1), and what has to be one line is one. `members_of` makes the
-members that `show --json` and `check --json` print of the lines that `show FILE` and `check` print.
+members that `show --json` prints of the lines that `show` prints.
 Lines say a little less: not whether a claim of numbers is absent or empty, so an empty one is left
 out (`without_empty`).
 """

@@ -48,6 +48,11 @@ def aspa(customer, *providers, until=NEXT):
     return "aspa", customer, providers, until
 
 
+# What there is in examples/ below the first trust anchor, and what is refused there.
+BELOW = f"rsync://{HOST}/authority"
+EXAMPLES = [origin(64496, "192.0.2.0/24", 26), origin(64496, "2001:db8::/32", 48), aspa(64496, 64497, 64511)]
+EXAMPLES_REFUSED = [(f"{BELOW}/{name}.roa", cause, f"{BELOW}/authority.mft") for name, cause in (
+    ("broken", FORGED), ("expired", ENDED), ("overclaiming", WIDE_IPV4))]
 # What the CAs say.
 PROVIDERS = [aspa(65001, 65010, 65011)]
 ORIGINS = [origin(65001, "10.1.0.0/16", 24), origin(65001, "2001:db8:1::/48")]
@@ -398,9 +403,10 @@ def one_twice(t):
     """The same anchor under a name that CSV quotes and JSON escapes, and a file that is refused."""
     t.a.add("n.roa", b"")
     refused = f"{t.a.folder}n.roa", BAD, t.a.manifest
-    t.tals['two, "2"\n\\.tal'] = t.tals["one.tal"]
+    name = 'two, "2"\\'
+    t.tals[f"{name}.tal"] = t.tals["one.tal"]
     t.says(A + C + B, refused)
-    t.found['two, "2"\n\\'], t.refused['two, "2"\n\\'] = A + C + B, [refused]
+    t.found[name], t.refused[name] = A + C + B, [refused]
 
 
 def same_names(t):

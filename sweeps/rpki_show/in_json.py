@@ -1,8 +1,8 @@
 #!/usr/bin/env python3
-"""Writes a module of tests that shows the files of examples/, and one more revocation list, as
-objects of JSON. Each text that is wanted is what Python's json module makes of the values, and is
-read back by it to these. Want of memory is handed on, so `tools/growth --unproved` refuses each of
-their allocations too.
+"""Writes a module of tests that has the members in JSON of the files of examples/, and of one more
+revocation list, and lines of whole objects. Each object of JSON that is wanted is what Python's json
+module makes of the values. Want of memory is handed on, so `tools/growth --unproved` refuses each of
+their allocations too. `OBJECTS` is also what sweeps/rpki_verify and tools/verify_runs want of the program.
 
 Serial numbers, key identifiers, moments and URIs are those that `openssl` prints."""
 import base64
@@ -13,17 +13,17 @@ import textwrap
 
 TREE = pathlib.Path(__file__).resolve().parent.parent.parent / "examples"
 HOST = "rsync://rpki.example.net"
-HEAD = '''//! The files of examples/ as objects of JSON, and what becomes of other octets.
+HEAD = '''//! The members of the files of examples/ in JSON, and what becomes of other octets.
 
 use bytes::Bytes;
 use rpki_cli::Causes;
 use rpki_cli::answer::Answer;
 use rpki_cli::words::{Kind, Options};
-use rpki_show::json::outcome::{push_error, push_invalid};
 use rpki_show::{
-    show_certificate_json, show_crl_json, show_object_json, show_rta_json, show_tal_json,
-    show_whole_object, show_whole_rta,
+    Unshown, attestation_members, certificate_members, crl_members, locator_members,
+    object_members, show_whole_object, show_whole_rta,
 };
+use serde_json::Value;
 use std::alloc::{AllocError, Global};
 use std::process::Abort;
 
@@ -39,24 +39,44 @@ enum Shown {
     Tal,
 }
 
-/// The lines that are shown, or what is said in their stead.
-fn lines(alloc: Global, name: &str, octets: &[u8], shown: Shown) -> Result<String, AllocError> {
+/// The object of JSON or the lines that are shown, or what is said in their stead.
+fn said(alloc: Global, octets: &[u8], shown: Shown) -> Result<String, AllocError> {
     let options = Options { relaxed: true, registered: false, wide: false };
     let causes = Causes::Included;
     let file = Bytes::copy_from_slice(alloc, octets)?;
-    let answer = match shown {
-        Shown::Object(kind) => show_object_json(alloc, causes, options, kind, name, file),
-        Shown::Whole(kind) => show_whole_object(alloc, causes, options, kind, file),
-        Shown::WholeRta => show_whole_rta(alloc, causes, file),
-        Shown::Certificate => show_certificate_json(alloc, causes, name, file),
-        Shown::Crl => show_crl_json(alloc, causes, name, file),
-        Shown::Rta => show_rta_json(alloc, causes, name, file),
-        Shown::Tal => show_tal_json(alloc, name, octets),
+    let members = match shown {
+        Shown::Object(kind) => object_members(alloc, options, kind, file),
+        Shown::Whole(kind) => {
+            return lines(alloc, show_whole_object(alloc, causes, options, kind, file));
+        }
+        Shown::WholeRta => return lines(alloc, show_whole_rta(alloc, causes, file)),
+        Shown::Certificate => certificate_members(alloc, file),
+        Shown::Crl => crl_members(alloc, file),
+        Shown::Rta => attestation_members(alloc, file),
+        Shown::Tal => locator_members(alloc, octets),
     };
+    match members {
+        Ok(members) => {
+            let object = Value::Object(members);
+            let text = object.to_string(alloc);
+            drop(object);
+            text
+        }
+        Err(Unshown::Memory) => Err(AllocError),
+        Err(Unshown::Malformed(cause)) => {
+            if cause.as_str().is_empty() {
+                "malformed".to_string(alloc)
+            } else {
+                Ok(cause)
+            }
+        }
+    }
+}
+
+/// These lines.
+fn lines(alloc: Global, answer: Answer<'_>) -> Result<String, AllocError> {
     match answer {
         Answer::Shown(text) => Ok(text),
-        Answer::Malformed => "malformed".to_string(alloc),
-        Answer::MalformedBy(cause) => Ok(cause),
         Answer::OutOfMemory => Err(AllocError),
         _ => "another answer".to_string(alloc),
     }
@@ -64,24 +84,12 @@ fn lines(alloc: Global, name: &str, octets: &[u8], shown: Shown) -> Result<Strin
 
 fn is_shown(
     rt: &(impl Abort + AllocGlobal),
-    name: &str,
     octets: &[u8],
     shown: Shown,
     wanted: &str,
 ) -> Result<(), AllocError> {
-    let text = lines(rt.alloc(), name, octets, shown)?;
+    let text = said(rt.alloc(), octets, shown)?;
     assert_eq!(rt; text.as_str(), wanted);
-    Ok(())
-}
-
-/// An error and a refusal, with a name of characters that stand after a backslash.
-#[test]
-fn outcomes(rt: HostRuntime) -> Result<(), AllocError> {
-    let alloc = rt.alloc();
-    let mut text = String::new(alloc);
-    push_error(&mut text, "a\\\\\\"\\u{e9}", "roa", "malformed: a prefix is too long")?;
-    push_invalid(&mut text, "b", "aspa", "refused: certificate has expired")?;
-    assert_eq!(rt; text.as_str(), OUTCOMES);
     Ok(())
 }
 '''
@@ -296,17 +304,11 @@ WHOLE_RTA = ("rta\nkey AC15A9E2F05691301C257BFEF6649F3AB7437791\nas AS64500-AS64
              f"crl {AUTHORITY}authority.crl\nas inherit\nipv4 inherit\nipv6 inherit\n"
              f"crl\nnumber 01\nthis-update {MOMENT}\nnext-update 2036-01-01T00:00:00Z\n"
              f"authority-key-id {CUSTOMER_KEY}\n")
-OUTCOMES = [
-    {"file": 'a\\"\u00e9', "type": "roa", "error": "malformed: a prefix is too long"},
-    {"file": "b", "type": "aspa", "valid": False, "error": "refused: certificate has expired"},
-]
 
 
-def line(value):
-    """The line of a value, which is read back."""
-    text = json.dumps(value, ensure_ascii=False) + "\n"
-    assert json.loads(text) == value
-    return text
+def object_of(said):
+    """The object of JSON with these members."""
+    return json.dumps(said, ensure_ascii=False, separators=(",", ":"), sort_keys=True)
 
 
 def quoted(text):
@@ -319,37 +321,34 @@ def table(name, octets):
     print("];\n")
 
 
-def print_test(number, name, octets, shown, wanted):
+def print_test(number, octets, shown, wanted):
     table(f"FILE_{number}", octets)
     print(f"static WANTED_{number}: &str = {quoted(wanted)};\n")
     print(f"#[test]\nfn row_{number}(rt: HostRuntime) -> Result<(), AllocError> {{")
-    print(f'    is_shown(&rt, "{name}", &FILE_{number}, Shown::{shown}, WANTED_{number})\n}}\n')
+    print(f"    is_shown(&rt, &FILE_{number}, Shown::{shown}, WANTED_{number})\n}}\n")
+
+
+def rows():
+    """Octets, how they are shown, and what is said."""
+    for path, shown, _, said in OBJECTS:
+        octets = (TREE / path).read_bytes()
+        if path.endswith(".tal"):
+            assert key_id(octets) == said["ski"]
+        yield octets, shown, object_of(said)
+        # What is cut is malformed. The last line feed of a locator may be missing.
+        yield octets.rstrip(b"\n")[:-1] if shown == "Tal" else octets[:-1], shown, "malformed"
+    yield revoked_list(), "Crl", object_of(REVOKED)
+    yield (TREE / "rpki.example.net/authority/providers.asa").read_bytes(), "Whole(Kind::Aspa)", WHOLE
+    yield (TREE / "holding.rta").read_bytes(), "WholeRta", WHOLE_RTA
+    # The certificate of a manifest's signer inherits its numbers.
+    octets = signer_of((TREE / "rpki.example.net/authority/authority.mft").read_bytes())
+    yield octets, "Certificate", object_of(signer("06", MANIFEST_KEY, "authority.mft") | {"ca": False} | INHERITED)
 
 
 def main():
     print(HEAD)
-    print(f"static OUTCOMES: &str = {quoted(''.join(line(it) for it in OUTCOMES))};\n")
-    number = 0
-    for path, shown, word, said in OBJECTS:
-        octets = (TREE / path).read_bytes()
-        if path.endswith(".tal"):
-            assert key_id(octets) == said["ski"]
-        print_test(number, path, octets, shown, line({"file": path, "type": word} | said))
-        # What is cut is malformed, under any name. The last line feed of a locator may be missing.
-        cut = octets.rstrip(b"\n")[:-1] if shown == "Tal" else octets[:-1]
-        print_test(number + 1, path, cut, shown, "malformed")
-        number += 2
-    octets = revoked_list()
-    print_test(number, "a.crl", octets, "Crl", line({"file": "a.crl", "type": "crl"} | REVOKED))
-    octets = (TREE / "rpki.example.net/authority/providers.asa").read_bytes()
-    print_test(number + 1, "a", octets, "Whole(Kind::Aspa)", WHOLE)
-    octets = (TREE / "holding.rta").read_bytes()
-    print_test(number + 2, "a", octets, "WholeRta", WHOLE_RTA)
-    # The certificate of a manifest's signer inherits its numbers.
-    octets = signer_of((TREE / "rpki.example.net/authority/authority.mft").read_bytes())
-    said = signer("06", MANIFEST_KEY, "authority.mft") | {"ca": False} | INHERITED
-    print_test(number + 3, "ee.cer", octets, "Certificate",
-               line({"file": "ee.cer", "type": "certificate"} | said))
+    for number, row in enumerate(rows()):
+        print_test(number, *row)
 
 
 if __name__ == "__main__":

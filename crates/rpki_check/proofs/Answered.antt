@@ -1,156 +1,92 @@
 -- What the statuses of calls say of octets.
-use Rattle.std.proofs.Common.{◌≡◌, ◌∙◌, ◌⊎◌, inl, inr, ℕ, List, [], ◌∷◌, Result, Ok, Err, map}
+use Rattle.std.proofs.Common.{◌≡◌, ◌∙◌, ◌⊎◌, inl, inr, ℕ, List, [], ◌∷◌, Result, Ok, Err}
 use Rattle.std.proofs.Common.{refl, sym, subst}
-use Rattle.std.proofs.lemmas.List.Elements.{All-cons, All-head, All-map, All-nil, All-tail}
-use Rattle.std.specs.Prelude.{All}
 use Rattle.std.specs.List.{AllZip}
 use Rattle.sha2.specs.Sha256.{sha256}
 use Rattle.rpki_der.specs.declared.mode.Mode.TheVariants.{Der}
-use Rattle.rpki_basics.specs.Moment.{Moment}
-use Rattle.rpki_certs.specs.Cert.{Certificate, KeptCertificate}
-use Rattle.rpki_certs.specs.Validate.{Validated}
-use Rattle.rpki_crls.specs.Crl.{KeptCrl}
 use Rattle.rpki_files.specs.Checklist.{ChecklistForm}
 use Rattle.rpki_files.specs.Checklist.Checks.{checklist_kind}
 use Rattle.rpki_files.specs.Manifest.{Manifest, ManifestForm}
 use Rattle.rpki_files.specs.Manifest.Checks.{manifest_kind}
-use Rattle.rpki_multi.specs.Attestation.{KeptWhole, Whole, whole_of}
-use Rattle.rpki_paths.specs.Anchor.{Supply}
+use Rattle.rpki_multi.specs.Attestation.{KeptWhole, Whole as Attested}
 use Rattle.rpki_routes.specs.Aspa.Checks.{aspa_kind}
 use Rattle.rpki_routes.specs.Aspa.Form.{AspaForm}
 use Rattle.rpki_routes.specs.Roa.Checks.{roa_kind}
 use Rattle.rpki_routes.specs.Roa.Form.{RoaForm}
 use Rattle.rpki_rsa.specs.Signature.{is_rsa_signature}
-use Rattle.rpki_rta.specs.Carried.{set_of}
-use Rattle.rpki_rta.specs.Granted.{IsGrantedRta}
+use Rattle.rpki_rta.specs.Granted.{IsDistinct}
 use Rattle.rpki_show.specs.Texts.Aspa.{aspa_text}
 use Rattle.rpki_show.specs.Texts.Manifest.{manifest_text}
 use Rattle.rpki_show.specs.Texts.Roa.{roa_text}
 use Rattle.rpki_show.specs.Texts.Rsc.{rsc_text}
 use Rattle.rpki_show.specs.declared.texts.serial.Hexadecimal.TheVariants.{Plain}
-use Rattle.rpki_signed.proofs.Exactness.{rta-headline}
-use Rattle.rpki_signed.specs.Headline.{BeginsWithGranted}
-use Rattle.rpki_signed.specs.declared.check.CheckError.{CheckError}
 use Rattle.rpki_sigobj.specs.Object.{mode_of}
 use Rattle.rpki_sigobj.specs.Signed.Kind.{ObjectKind}
-use Rattle.rpki_check.specs.Attestation.{GrantsOn, IsAttestationFound, IsAttestationSaid}
-use Rattle.rpki_check.specs.Attestation.{IsGrantedIn, IsRefusedByList, IsRevokedOf, supply_on}
+use Rattle.rpki_validation.specs.Attestation.{IsGoodRtaOn, IsGrantedOn}
+use Rattle.rpki_validation.specs.declared.grounds.Grounds.{Grounds}
+use Rattle.rpki_validation.specs.declared.kinds.Kind.TheVariants.{Aspa, Checklist, Manifest as Listing, Roa}
+use Rattle.rpki_validation.specs.declared.refusal.Refusal.{Refusal as Cause}
+use Rattle.rpki_validation.specs.declared.refusal.Refusal.TheVariants as causes
+use Rattle.rpki_validation.proofs.Decided.{good-rta-on, rta-decided}
+use Rattle.rpki_check.specs.Attestation.{IsAttestationFound, IsAttestationSaid, IsGrantedIn}
 use Rattle.rpki_check.specs.Decided.{EditionTells, FilesTell, IsGrantDecided, IsGrantedFor}
 use Rattle.rpki_check.specs.Decided.{IsSurelyGranted, ObjectTells, ObjectsTell, RowsTell, Tells}
 use Rattle.rpki_check.specs.Decided.{TellsAsked, TellsGood, TellsGranted}
 use Rattle.rpki_check.specs.Edition.{IsEditionPut}
 use Rattle.rpki_check.specs.Files.{AreFilesPut, Named}
-use Rattle.rpki_check.specs.Grounds.{AreGroundsOf, AreSame, manner_in}
+use Rattle.rpki_check.specs.Grounds.{AreGroundsOf, manner_in}
 use Rattle.rpki_check.specs.Kinds.{AsksFor, OfAsked}
 use Rattle.rpki_check.specs.Many.{IsGrantStatus, IsStatusAs, IsStatusOn}
-use Rattle.rpki_check.specs.Numbers.{check_number, no_kind, no_memory, refusal_number, status_of}
+use Rattle.rpki_check.specs.Numbers.{no_kind, no_memory, refusal_number, status_of}
 use Rattle.rpki_check.specs.Object.{IsFound, IsGoodFor}
+use Rattle.rpki_check.specs.Refusal.{IsToldAs}
 use Rattle.rpki_check.specs.Report.{IsSaid}
 use Rattle.rpki_check.specs.Rows.{IsPut}
 use Rattle.rpki_check.specs.declared.edition.Edition.{Edition}
 use Rattle.rpki_check.specs.declared.files.Entry.{Entry}
-use Rattle.rpki_check.specs.declared.grounds.Grounds.{Grounds}
 use Rattle.rpki_check.specs.declared.kinds.Asked.{Asked}
 use Rattle.rpki_check.specs.declared.kinds.Asked.TheVariants.{Attestation, Object}
-use Rattle.rpki_check.specs.declared.kinds.Kind.TheVariants.{Aspa, Checklist, Manifest as Listing, Roa}
 use Rattle.rpki_check.specs.declared.many.Object.{Object as ObjectOf}
 use Rattle.rpki_check.specs.declared.question.Question.{Question}
 use Rattle.rpki_check.specs.declared.refusal.Refusal.{Refusal}
-use Rattle.rpki_check.specs.declared.refusal.Refusal.TheVariants.{Check, Issuer, Memory}
-use Rattle.rpki_check.specs.declared.refusal.Refusal.TheVariants.{NoList, NoMoment}
-use Rattle.rpki_check.proofs.Decided.{decided, memory-number, nonzero}
+use Rattle.rpki_check.proofs.Asking.{memory-told, not-memory, not-refused, one-grounds}
+use Rattle.rpki_check.proofs.Decided.{decided, nonzero}
 use Rattle.rpki_check.proofs.Naming.{one-asked}
-use Rattle.rpki_check.proofs.Single.{not-refused, one-grounds}
 
 -- ---- attestations
-
-unmapped : {X Y : Type 0} (P : X → Type 0) (f : Y → X) (ys : List Y) → All P (map f ys)
-    → All (λ y. P (f y)) ys
-unmapped P f [] h = All-nil (λ y. P (f y))
-unmapped P f (y ∷ ys) h =
-    All-cons (λ z. P (f z)) y ys (All-head P (f y) (map f ys) h)
-    (unmapped P f ys (All-tail P (f y) (map f ys) h))
-
-abbrev certificate_of : KeptCertificate → Certificate
-certificate_of k = k.certificate
-
--- no list revokes a certificate of this issuer
-abbrev Unrevoked : List KeptCrl → Validated → Certificate → Type 0
-Unrevoked lists issuer c = ¬ IsRevokedOf lists issuer.cert.certificate c
 
 module _ (q : Question) (octets : List ℕ) where
   granted-yes : (found : Result KeptWhole Refusal) → IsAttestationFound q octets found
       → status_of found ≡ 0 → IsGrantedFor q octets
   granted-yes (Ok k) (inl h) e = absurd (let same : Ok k ≡ Err h.0 = h.2 in cc)
-  granted-yes (Ok k) (inr f) e =
-      let b = f.found.0.exact in
-      let P = Unrevoked f.grounds.lists.items f.grounds.issuer in
-      record {
-        grounds = f.grounds;
-        are = f.are;
-        granted = record {
-          object = b.object;
-          rest = b.rest;
-          front = b.front;
-          granted = b.holds.0;
-        };
-        unrevoked =
-            subst (λ (r : Whole). All P r.signed.certs) b.holds.1
-            (All-map P certificate_of k.signed.certs f.found.1);
-      }
+  granted-yes (Ok k) (inr f) e = record {
+    grounds = f.grounds;
+    are = f.are;
+    good = rta-decided.yes f.grounds octets k f.found;
+  }
   granted-yes (Err refusal) h e = absurd (nonzero refusal e)
 
-  -- what is granted and unrevoked on some grounds is so on the others
-  module _ (d : IsGrantedFor q octets) (h : Grounds) (same : AreSame d.grounds h) where
-    carried : IsGrantedRta sha256 is_rsa_signature h.moment d.granted.object (supply_on h ∷ [])
-    carried =
-        let On : Moment → Validated → Type 0 = λ t v.
-        IsGrantedRta sha256 is_rsa_signature t d.granted.object
-        (Supply.Ca v.cert.certificate.tbs.extensions.key.subject_key v.cert.certificate.tbs.key
-        (set_of v.sets) ∷ []) in
-        subst (λ (t : Moment). On t h.issuer) same.moment
-        (subst (λ (v : Validated). On d.grounds.moment v) same.issuer d.granted.granted)
-
-    kept : All (Unrevoked h.lists.items h.issuer) d.granted.object.signed.certs
-    kept =
-        let certs = d.granted.object.signed.certs in
-        subst (λ (ls : List KeptCrl). All (Unrevoked ls h.issuer) certs) same.lists
-        (subst (λ (v : Validated). All (Unrevoked d.grounds.lists.items v) certs) same.issuer
-        d.unrevoked)
-
-  denied : (g : Grounds) (fault : CheckError)
-      → GrantsOn g octets (Err fault) ⊎ IsRefusedByList g octets fault
-      → ¬ (check_number fault ≡ no_memory) → (d : IsSurelyGranted q octets)
-      → AreSame d.granted.grounds g → ⊥
-  denied g fault (inl h) m d same =
-      let b = d.granted.granted in
-      let held : BeginsWithGranted sha256 is_rsa_signature g.moment (supply_on g ∷ []) octets =
-      record {
-        object = b.object;
-        rest = b.rest;
-        front = b.front;
-        granted = carried d.granted g same;
-      } in
-      rta-headline.no sha256 is_rsa_signature g.moment (supply_on g ∷ []) octets fault h.exact
-      (λ memory. m (memory-number fault memory)) held d.distinct
-  denied g fault (inr (is, (k, h, revoked))) m d same =
-      let b = h.exact in
-      let r = d.granted.granted in
-      let at : whole_of k ≡ r.object =
-      b.holds.1 ∙ (r.front.only b.object b.rest b.front.found).0 in
-      let P = Unrevoked g.lists.items g.issuer in
-      revoked (unmapped P certificate_of k.signed.certs
-      (subst (λ (w : Whole). All P w.signed.certs) (sym at) (kept d.granted g same)))
+  denied : (g : Grounds) (cause : Cause) (refusal : Refusal) → IsGrantedOn g octets (Err cause)
+      → IsToldAs cause refusal → ¬ (refusal_number refusal ≡ no_memory)
+      → (good : IsGoodRtaOn g octets) → ¬ IsDistinct sha256 is_rsa_signature good.granted.object
+  denied g causes.Memory refusal h t m good d =
+      m (memory-told causes.Memory refusal t refl)
+  denied g causes.NoLocator refusal h t m good d = h
+  denied g (causes.NoList place) refusal h t m good d = h
+  denied g (causes.Issuer fault) refusal h t m good d = h
+  denied g (causes.Check fault) refusal h t m good d =
+      rta-decided.no g octets fault h (not-memory (causes.Check fault) refusal t m) good.granted d
+  denied g (causes.Revoked place) refusal h t m good d = rta-decided.revoked g octets place h good
 
   denied-on : (refusal : Refusal) → IsGrantedIn q octets (Err refusal)
       → ¬ (refusal_number refusal ≡ no_memory) → ¬ IsSurelyGranted q octets
-  denied-on Memory f m d = m refl
-  denied-on NoMoment f m d = f.found
-  denied-on NoList f m d = f.found
-  denied-on (Issuer fault) f m d = f.found
-  denied-on (Check fault) f m d =
-      denied f.grounds fault f.found m d
-      (one-grounds q d.granted.grounds f.grounds d.granted.are f.are)
+  denied-on refusal f m d =
+      let b = d.granted.good.granted in
+      let good = good-rta-on octets d.granted.grounds f.grounds
+      (one-grounds q d.granted.grounds f.grounds d.granted.are f.are) d.granted.good in
+      denied f.grounds f.found.0 refusal f.found.1 f.found.2 m good
+      (subst (λ (w : Attested). IsDistinct sha256 is_rsa_signature w)
+      (good.granted.front.only b.object b.rest b.front.found).0 d.distinct)
 
   granted-no : (found : Result KeptWhole Refusal) → IsAttestationFound q octets found
       → ¬ (status_of found ≡ 0) → ¬ (status_of found ≡ no_memory) → ¬ IsSurelyGranted q octets

@@ -4,6 +4,7 @@ use Rattle.std.proofs.Common.{arith, subst}
 use Rattle.sha2.specs.Sha256.{sha256}
 use Rattle.rpki_der.specs.declared.error.DecodeError.{DecodeError}
 use Rattle.rpki_der.specs.declared.error.DecodeError.TheVariants as decoding
+use Rattle.rpki_der.specs.declared.mode.Mode.{Mode}
 use Rattle.rpki_resources.specs.declared.family.AddressFamily.TheVariants.{Ipv4, Ipv6}
 use Rattle.rpki_faults.specs.declared.family.Family.TheVariants.{As, V4, V6}
 use Rattle.rpki_faults.specs.declared.inspection.InspectionError.{InspectionError}
@@ -12,12 +13,9 @@ use Rattle.rpki_faults.specs.declared.validation.ValidationError.{ValidationErro
 use Rattle.rpki_faults.specs.declared.validation.ValidationError.TheVariants as validation
 use Rattle.rpki_faults.specs.declared.verification.VerificationError.{VerificationError}
 use Rattle.rpki_faults.specs.declared.verification.VerificationError.TheVariants as faults
-use Rattle.rpki_basics.specs.Moment.{Moment}
 use Rattle.rpki_certs.specs.Cert.{KeptCertificate}
-use Rattle.rpki_certs.specs.Validate.{Validated}
 use Rattle.rpki_certs.specs.declared.issuer.IssuerError.{IssuerError}
 use Rattle.rpki_certs.specs.declared.issuer.IssuerError.TheVariants as issuing
-use Rattle.rpki_crls.specs.Crl.{KeptCrl}
 use Rattle.rpki_rsa.specs.Signature.{is_rsa_signature}
 use Rattle.rpki_signed.proofs.Exactness.{headline}
 use Rattle.rpki_signed.specs.Headline.{BeginsWithGood, IsMemory, SaysOne}
@@ -26,12 +24,14 @@ use Rattle.rpki_signed.specs.declared.check.CheckError.TheVariants as checking
 use Rattle.rpki_sigobj.specs.Object.{mode_of}
 use Rattle.rpki_sigobj.specs.Signed.Kind.{ObjectKind}
 use Rattle.rpki_sigobj.specs.Signed.{cert_in}
-use Rattle.rpki_check.specs.Grounds.{AreSame, manner_in}
+use Rattle.rpki_validation.specs.Object.{IsGoodOn}
+use Rattle.rpki_validation.specs.declared.grounds.Grounds.{Grounds}
+use Rattle.rpki_validation.proofs.Decided.{good-on}
+use Rattle.rpki_check.specs.Grounds.{manner_in}
 use Rattle.rpki_check.specs.Numbers.{check_number, inspection_number, issuer_number, refusal_number}
 use Rattle.rpki_check.specs.Numbers.{no_memory, status_of, verification_number}
-use Rattle.rpki_check.specs.Object.{IsDecided, IsFound, IsFoundIn, IsGoodFor, ListsSay, SaysOf}
-use Rattle.rpki_check.proofs.Single.{not-refused, one-grounds}
-use Rattle.rpki_check.specs.declared.grounds.Grounds.{Grounds}
+use Rattle.rpki_check.specs.Object.{IsDecided, IsFound, IsFoundIn, IsGoodFor, ListsSay}
+use Rattle.rpki_check.proofs.Asking.{not-refused, one-grounds}
 use Rattle.rpki_check.specs.declared.question.Question.{Question}
 use Rattle.rpki_check.specs.declared.refusal.Refusal.{Refusal}
 use Rattle.rpki_check.specs.declared.refusal.Refusal.TheVariants.{Check, Issuer, Memory}
@@ -133,7 +133,7 @@ memory-number (checking.Validation fault) e =
     ap (λ (v : ValidationError). check_number (checking.Validation v)) e
 
 -- lists have one answer about a certificate
-says-one : (g : Grounds) (k : KeptCertificate) → SaysOne (SaysOf g) k
+says-one : (g : Grounds) (k : KeptCertificate) → SaysOne (ListsSay g) k
 says-one g k (Ok u) (Ok v) h i = refl
 says-one g k (Ok u) (Err b) h (inl i) = absurd i.1
 says-one g k (Ok u) (Err b) h (inr i) = absurd (i.0 h.0)
@@ -142,6 +142,33 @@ says-one g k (Err a) (Ok u) (inr h) i = absurd (h.0 i.0)
 says-one g k (Err a) (Err b) (inl h) i = absurd h.1
 says-one g k (Err a) (Err b) (inr h) (inl i) = absurd i.1
 says-one g k (Err a) (Err b) (inr h) (inr i) = ap Err (h.1 ∙ sym i.1)
+
+module _ {X : Type 0} (kind : ObjectKind X) (form : List ℕ → X → Type 0) (mode : Mode) (g : Grounds)
+    (octets : List ℕ) where
+  -- what is good where the lists are asked, as what no list revokes
+  abbrev GoodByLists : Type 0
+  GoodByLists = BeginsWithGood kind form mode sha256 is_rsa_signature g.issuer g.moment (ListsSay g)
+      octets
+
+  unlisted : GoodByLists → IsGoodOn kind form mode g octets
+  unlisted b = record {
+    object = b.object;
+    rest = b.rest;
+    front = b.front;
+    certificate = b.certificate;
+    good = b.good;
+    said = b.said.0;
+  }
+
+  listed : IsGoodOn kind form mode g octets → GoodByLists
+  listed b = record {
+    object = b.object;
+    rest = b.rest;
+    front = b.front;
+    certificate = b.certificate;
+    good = b.good;
+    said = (b.said, tt);
+  }
 
 -- ---- a yes and a no
 
@@ -154,22 +181,11 @@ module _ {X : Type 0} (kind : ObjectKind X) (form : List ℕ → X → Type 0) (
     grounds = f.grounds;
     are = f.are;
     good =
-        (headline kind form (SaysOf f.grounds)).yes (mode_of (manner_in q).strict) sha256
-        is_rsa_signature f.grounds.issuer f.grounds.moment octets (f.found.0, x) f.found.1.exact;
+        unlisted kind form (mode_of (manner_in q).strict) f.grounds octets
+        ((headline kind form (ListsSay f.grounds)).yes (mode_of (manner_in q).strict) sha256
+        is_rsa_signature f.grounds.issuer f.grounds.moment octets (f.found.0, x) f.found.1.exact);
   }
   yes (Err refusal) h e = absurd (nonzero refusal e)
-
-  -- what is good on some grounds is good on the others
-  abbrev GoodOn : Moment → List KeptCrl → Validated → Type 0
-  GoodOn moment lists issuer = BeginsWithGood kind form (mode_of (manner_in q).strict) sha256
-      is_rsa_signature issuer moment (ListsSay lists issuer.cert.certificate) octets
-
-  carried : (g : IsGoodFor kind form q octets) (h : Grounds) → AreSame g.grounds h
-      → GoodOn h.moment h.lists.items h.issuer
-  carried g h same =
-      subst (λ (t : Moment). GoodOn t h.lists.items h.issuer) same.moment
-      (subst (λ (l : List KeptCrl). GoodOn g.grounds.moment l h.issuer) same.lists
-      (subst (λ (v : Validated). GoodOn g.grounds.moment g.grounds.lists.items v) same.issuer g.good))
 
   no-on : (refusal : Refusal) → IsFoundIn kind form q octets (Err refusal)
       → ¬ (refusal_number refusal ≡ no_memory) → ¬ IsGoodFor kind form q octets
@@ -178,8 +194,10 @@ module _ {X : Type 0} (kind : ObjectKind X) (form : List ℕ → X → Type 0) (
   no-on NoList f m g = f.found
   no-on (Issuer fault) f m g = f.found
   no-on (Check fault) f m g =
-      let good = carried g f.grounds (one-grounds q g.grounds f.grounds g.are f.are) in
-      (headline kind form (SaysOf f.grounds)).no (mode_of (manner_in q).strict) sha256
+      let good = listed kind form (mode_of (manner_in q).strict) f.grounds octets
+      (good-on kind form (mode_of (manner_in q).strict) octets g.grounds f.grounds
+      (one-grounds q g.grounds f.grounds g.are f.are) g.good) in
+      (headline kind form (ListsSay f.grounds)).no (mode_of (manner_in q).strict) sha256
       is_rsa_signature f.grounds.issuer f.grounds.moment octets fault f.found.exact
       (λ memory. m (memory-number fault memory)) good
       (says-one f.grounds (cert_in (mode_of (manner_in q).strict) good.object))

@@ -1,52 +1,18 @@
 -- Which kind an object names.
-use Rattle.std.proofs.Common.{◌≡◌, ◌∙◌, ℕ, List, Option, None, Some, Result, Ok, Err, inl, inr}
+use Rattle.std.proofs.Common.{◌≡◌, ◌∙◌, ℕ, List, Result, Ok, Err, inl, inr}
 use Rattle.std.proofs.Common.{ap, get_or, refl, subst, sym}
-use Rattle.std.specs.Prelude.{MatchOption, nat_eq, if◌then◌else◌}
+use Rattle.std.specs.Prelude.{nat_eq, if◌then◌else◌}
 use Rattle.rpki_der.specs.declared.mode.Mode.{Mode}
-use Rattle.rpki_der.specs.Form.Decodes.{IsOnlyFront}
 use Rattle.rpki_der.specs.Grammar.{HasNoFront}
 use Rattle.rpki_der.specs.declared.mode.Mode.TheVariants.{Der}
 use Rattle.rpki_multi.specs.Multi.{MultiForm}
-use Rattle.rpki_sigobj.specs.Object.{SignedForm, SignedObject}
-use Rattle.rpki_check.specs.Kinds.{AsksFor, IsAskedOr, IsNamedBy, Names, NamesAttestation}
-use Rattle.rpki_check.specs.Kinds.{asked_code, type_of}
+use Rattle.rpki_sigobj.specs.Object.{SignedObject}
+use Rattle.rpki_validation.specs.Kinds.{Names, type_of}
+use Rattle.rpki_validation.specs.declared.kinds.Kind.{Kind}
+use Rattle.rpki_validation.specs.declared.kinds.Kind.TheVariants.{Aspa, Checklist, Manifest, Roa}
+use Rattle.rpki_check.specs.Kinds.{AsksFor, IsAskedOr, IsNamedBy, NamesAttestation, asked_code}
 use Rattle.rpki_check.specs.declared.kinds.Asked.{Asked}
 use Rattle.rpki_check.specs.declared.kinds.Asked.TheVariants.{Attestation, Object}
-use Rattle.rpki_check.specs.declared.kinds.Kind.{Kind}
-use Rattle.rpki_check.specs.declared.kinds.Kind.TheVariants.{Aspa, Checklist, Manifest, Roa}
-
-module _ (mode : Mode) (octets source : List ℕ) (same : source ≡ octets) where
-  -- octets that begin with no signed object name no kind
-  pub unnamed : HasNoFront (SignedForm mode) source → (k : Kind) → Names mode octets k → ⊥
-  unnamed none k h =
-      subst (λ (o : List ℕ). HasNoFront (SignedForm mode) o) same none h.object h.rest h.front.found
-
-  module _ (o : SignedObject) (rest : List ℕ) (front : IsOnlyFront (SignedForm mode) source o rest)
-    where
-      -- the object names the kind of its content's type
-      named : (k : Kind) → o.signed.content_type ≡ type_of k → Names mode octets k
-      named k is = subst (λ (s : List ℕ). Names mode s k) same (record {
-        object = o;
-        rest = rest;
-        front = front;
-        holds = is;
-      })
-
-      -- and no other
-      other : ((k : Kind) → o.signed.content_type ≡ type_of k → ⊥) → (k : Kind)
-          → Names mode octets k → ⊥
-      other none k h =
-          let f = subst (λ (s : List ℕ). IsOnlyFront (SignedForm mode) s o rest) same front in
-          none k (subst (λ (x : SignedObject). x.signed.content_type ≡ type_of k)
-          (f.only h.object h.rest h.front.found).0 h.holds)
-
-      -- what is found of the type is what the object names
-      pub of-type : (found : Option Kind)
-          → MatchOption found ((k : Kind) → o.signed.content_type ≡ type_of k → ⊥)
-          (λ k. o.signed.content_type ≡ type_of k)
-          → MatchOption found ((k : Kind) → Names mode octets k → ⊥) (λ k. Names mode octets k)
-      of-type None h = other h
-      of-type (Some k) h = named k h
 
 -- octets that begin with no multi-signed object name no attestation
 pub no-attestation : (octets source : List ℕ) → source ≡ octets → HasNoFront (MultiForm Der) source

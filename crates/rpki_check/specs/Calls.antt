@@ -2,6 +2,7 @@
 use Rattle.std.specs.Prelude.{◌≡◌, ◌⊎◌, ℕ, List, []}
 use Rattle.rpki_der.specs.declared.mode.Mode.{Mode}
 use Rattle.rpki_sigobj.specs.Object.{mode_of}
+use Rattle.rpki_validation.specs.declared.question.Manner.{Manner}
 use Rattle.rpki_check.specs.Attestation.{IsAttestationSaid, IsAttestationShown}
 use Rattle.rpki_check.specs.Grounds.{manner_in}
 use Rattle.rpki_check.specs.Kinds.{AsksFor, OfAsked}
@@ -9,7 +10,6 @@ use Rattle.rpki_check.specs.Numbers.{no_kind, no_memory}
 use Rattle.rpki_check.specs.Report.{IsSaid, IsShown}
 use Rattle.rpki_check.specs.Room.{IsInRoom}
 use Rattle.rpki_check.specs.declared.kinds.Asked.{Asked}
-use Rattle.rpki_check.specs.declared.question.Manner.{Manner}
 use Rattle.rpki_check.specs.declared.question.Question.{Question}
 
 -- what a call leaves where a number asks for nothing, or memory ran out

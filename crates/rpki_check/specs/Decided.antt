@@ -1,5 +1,5 @@
 -- What the statuses of calls say of octets.
-use Rattle.std.specs.Prelude.{◌≡◌, ℕ, List, ◌∷◌, [], All, Result}
+use Rattle.std.specs.Prelude.{◌≡◌, ℕ, List, Result}
 use Rattle.std.specs.List.{AllZip}
 use Rattle.sha2.specs.Sha256.{sha256}
 use Rattle.rpki_der.specs.declared.mode.Mode.TheVariants.{Der}
@@ -8,10 +8,11 @@ use Rattle.rpki_files.specs.Manifest.Checks.{manifest_kind}
 use Rattle.rpki_multi.specs.Attestation.{KeptWhole}
 use Rattle.rpki_rsa.specs.Signature.{is_rsa_signature}
 use Rattle.rpki_rta.specs.Granted.{IsDistinct}
-use Rattle.rpki_signed.specs.Headline.{BeginsWithGranted}
 use Rattle.rpki_sigobj.specs.Object.{mode_of}
 use Rattle.rpki_sigobj.specs.Signed.Kind.{ObjectKind}
-use Rattle.rpki_check.specs.Attestation.{IsAttestationFound, IsRevokedOf, supply_on}
+use Rattle.rpki_validation.specs.Attestation.{IsGoodRtaOn}
+use Rattle.rpki_validation.specs.declared.grounds.Grounds.{Grounds}
+use Rattle.rpki_check.specs.Attestation.{IsAttestationFound}
 use Rattle.rpki_check.specs.Calls.{IsObjectCall}
 use Rattle.rpki_check.specs.Edition.{IsEditionCall}
 use Rattle.rpki_check.specs.Files.{IsFilesCall, Named}
@@ -24,7 +25,6 @@ use Rattle.rpki_check.specs.Room.{IsInRoom}
 use Rattle.rpki_check.specs.Rows.{IsRowsCall}
 use Rattle.rpki_check.specs.declared.edition.Edition.{Edition}
 use Rattle.rpki_check.specs.declared.files.Entry.{Entry}
-use Rattle.rpki_check.specs.declared.grounds.Grounds.{Grounds}
 use Rattle.rpki_check.specs.declared.kinds.Asked.{Asked}
 use Rattle.rpki_check.specs.declared.many.Object.{Object}
 use Rattle.rpki_check.specs.declared.question.Question.{Question}
@@ -45,20 +45,17 @@ TellsGood kind form q octets status =
 -- ---- attestations
 
 -- The octets begin with an attestation that is granted: the certificates of the question make an
--- issuer at its moment, under which it is granted as under the one CA that is supplied
--- (`BeginsWithGranted`), and no list revokes a certificate of it that is of this issuer.
+-- issuer at its moment, under which it is granted as under the one CA that is supplied, and no list
+-- revokes a certificate of it that is of this issuer (`IsGoodRtaOn`).
 pub record IsGrantedFor (q : Question) (octets : List ℕ) : Type 0 where
   pub grounds : Grounds
   pub are : AreGroundsOf q grounds
-  pub granted : BeginsWithGranted sha256 is_rsa_signature grounds.moment (supply_on grounds ∷ [])
-      octets
-  pub unrevoked : All (λ c. ¬ IsRevokedOf grounds.lists.items grounds.issuer.cert.certificate c)
-      granted.object.signed.certs
+  pub good : IsGoodRtaOn grounds octets
 
 -- The same, and the identifiers of its certificates are distinct.
 pub record IsSurelyGranted (q : Question) (octets : List ℕ) : Type 0 where
   pub granted : IsGrantedFor q octets
-  pub distinct : IsDistinct sha256 is_rsa_signature granted.granted.object
+  pub distinct : IsDistinct sha256 is_rsa_signature granted.good.granted.object
 
 -- A status is 0 only where the octets begin with an attestation that is granted, and exactly there,
 -- unless memory ran out, if the identifiers of its certificates are distinct.

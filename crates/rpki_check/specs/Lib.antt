@@ -8,7 +8,7 @@ pub mod Kinds
 pub mod Many
 pub mod Numbers
 pub mod Object
+pub mod Refusal
 pub mod Report
-pub mod Revoked
 pub mod Room
 pub mod Rows

@@ -5,16 +5,16 @@ use Rattle.rpki_der.specs.declared.mode.Mode.{Mode}
 use Rattle.rpki_sigobj.specs.Object.{mode_of}
 use Rattle.rpki_sigobj.specs.Signed.Kind.{ObjectKind}
 use Rattle.rpki_multi.specs.Attestation.{KeptWhole}
-use Rattle.rpki_check.specs.Attestation.{IsGrantedOn}
+use Rattle.rpki_validation.specs.declared.grounds.Grounds.{Grounds}
+use Rattle.rpki_validation.specs.declared.question.Manner.{Manner}
+use Rattle.rpki_check.specs.Attestation.{IsGrantFound}
 use Rattle.rpki_check.specs.Grounds.{AreGroundsOf, HasNoGrounds, manner_in}
 use Rattle.rpki_check.specs.Kinds.{AsksFor, OfAsked}
 use Rattle.rpki_check.specs.Numbers.{no_kind, no_memory, refusal_number, status_of}
 use Rattle.rpki_check.specs.Object.{IsFoundOn}
 use Rattle.rpki_check.specs.Room.{IsInRoom}
-use Rattle.rpki_check.specs.declared.grounds.Grounds.{Grounds}
 use Rattle.rpki_check.specs.declared.kinds.Asked.{Asked}
 use Rattle.rpki_check.specs.declared.many.Object.{Object}
-use Rattle.rpki_check.specs.declared.question.Manner.{Manner}
 use Rattle.rpki_check.specs.declared.question.Question.{Question}
 use Rattle.rpki_check.specs.declared.refusal.Refusal.{Refusal}
 
@@ -27,7 +27,7 @@ IsStatusAs {X} kind form mode g octets status = (found : Result X Refusal)
 -- the status of an attestation on these grounds: that of what is found
 abbrev pub IsGrantStatus : Grounds → List ℕ → ℕ → Type 0
 IsGrantStatus g octets status = (found : Result KeptWhole Refusal)
-    × IsGrantedOn g octets found × (status ≡ status_of found)
+    × IsGrantFound g octets found × (status ≡ status_of found)
 
 -- the status of an object: that of what its number asks for, or that there is no such kind, unless
 -- memory ran out

@@ -7,13 +7,13 @@ ghost use Rattle.rpki_check.specs.Files.{AreFilesPut, AreWritten, IsFilesCall, I
 ghost use Rattle.rpki_check.specs.Files.{Named, checked_files, is_named, listed_files, name_octets};
 ghost use Rattle.rpki_check.specs.Grounds.{manner_in};
 
-use crate::kinds::Lines;
 use crate::numbers::{GOOD, NO_MEMORY};
 use crate::object::found_in;
 use crate::question::Question;
 use crate::refusal::Refusal;
 use crate::room::put;
 use rpki_files::{ManifestContent, ResourceSignedChecklist};
+use rpki_validation::kinds::Lines;
 use std::alloc::{AllocError, Global};
 
 /// Where the name and the hash of a file stand.

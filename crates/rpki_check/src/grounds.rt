@@ -1,27 +1,26 @@
 //! What a question is answered on.
 
-ghost use Rattle.std.specs.Prelude.{◌≡◌, IfOk};
-ghost use Rattle.rpki_der.specs.declared.mode.Mode.TheVariants.{Der};
-ghost use Rattle.rpki_der.specs.Form.Decodes.{Decodes};
-ghost use Rattle.rpki_crls.specs.Crl.{CrlForm};
-ghost use Rattle.rpki_check.specs.Grounds.{IsGrounded, IsListing};
+ghost use Rattle.std.specs.Prelude.{◌≡◌, IfOk, None};
+ghost use Rattle.rpki_basics.specs.Moment.{IsMoment};
+ghost use Rattle.rpki_validation.specs.Grounds.{locator_octets};
+ghost use Rattle.rpki_check.specs.Grounds.{AreCopies, Asks, IsGrounded, IsPosedGrounded, lent};
+ghost use Rattle.rpki_check.specs.Grounds.{moment_in};
 
-use crate::issuer::issuer_of;
-use crate::question::{Octets, Question, moment_of};
-use crate::refusal::Refusal;
+use crate::question::{Octets, Question, manner_of, moment_of};
+use crate::refusal::{Refusal, told_as};
 use bytes::Bytes;
 use rpki_basics::Time;
-use rpki_certs::ResourceCert;
-use rpki_crls::Crl;
-use rpki_der::DecodeError;
-use std::alloc::Global;
+use rpki_validation::grounds;
+use rpki_validation::grounds::Grounds;
+use rpki_validation::question::Question as Posed;
+use std::alloc::{AllocError, Global};
 
-/// The issuer that certificates make at a moment, and the revocation lists.
+/// The octets of a question, in memory of the call's own.
 #[derive(Drop)]
-pub struct Grounds {
-    pub issuer: ResourceCert,
-    pub lists: Vec<Crl>,
-    pub moment: Time,
+struct Copies {
+    anchor: Bytes,
+    chain: Vec<Bytes>,
+    lists: Vec<Bytes>,
 }
 
 /// The grounds of a question, or why it has none.
@@ -30,52 +29,67 @@ pub fn grounds_of(alloc: Global, question: &Question<'_>) -> Result<Grounds, Ref
 {
     match moment_of(question.moment) {
         None => Err(Refusal::NoMoment),
-        Some(moment) => match lists_of(alloc, question.lists) {
-            Err(refusal) => Err(refusal),
-            Ok(lists) => {
-                match issuer_of(alloc, question.anchor, question.chain, &lists, moment) {
-                    Err(fault) => {
-                        drop(lists);
-                        Err(Refusal::Issuer(fault))
-                    }
-                    Ok(issuer) => Ok(Grounds {
-                        issuer,
-                        lists,
-                        moment,
-                    }),
-                }
+        Some(moment) => match copies_of(alloc, question) {
+            Err(_) => Err(Refusal::Memory),
+            Ok(copies) => {
+                let grounds = grounds_posed(alloc, &posed(question, &copies, moment));
+                drop(copies);
+                grounds
             }
         },
     }
 }
 
-/// The lists that the octets begin with, one each.
-fn lists_of(alloc: Global, octets: &[Octets<'_>]) -> Result<Vec<Crl>, Refusal>
-    ensures { IsListing octets.now result }
+/// Copies of the octets of a question.
+fn copies_of(alloc: Global, question: &Question<'_>) -> Result<Copies, AllocError>
+    ensures { IfOk result (AreCopies question.now) }
 {
-    let mut lists = Vec::new(alloc);
-    for one in octets {
-        match list_in(alloc, one.octets) {
-            Err(DecodeError::Memory) => return Err(Refusal::Memory),
-            Err(DecodeError::Malformed) => return Err(Refusal::NoList),
-            Err(DecodeError::Content(_)) => return Err(Refusal::NoList),
-            Ok(list) => {
-                if lists.push(list).is_err() {
-                    return Err(Refusal::Memory);
-                }
-            }
-        }
-    }
-    Ok(lists)
+    let anchor = Bytes::copy_from_slice(alloc, question.anchor)?;
+    let chain = copy_each(alloc, question.chain)?;
+    let lists = copy_each(alloc, question.lists)?;
+    Ok(Copies {
+        anchor,
+        chain,
+        lists,
+    })
 }
 
-/// The list that the octets begin with.
-fn list_in(alloc: Global, octets: &[u8]) -> Result<Crl, DecodeError>
-    ensures decodes { Decodes (CrlForm Der) (λ c. c.list) octets.now result }
-    ensures mode { IfOk result (λ c. c.mode ≡ Der) }
+/// A copy of each of these octets.
+fn copy_each(alloc: Global, octets: &[Octets<'_>]) -> Result<Vec<Bytes>, AllocError>
+    ensures { IfOk result (λ copies. copies.items ≡ lent octets.now) }
 {
-    match Bytes::copy_from_slice(alloc, octets) {
-        Err(_) => Err(DecodeError::Memory),
-        Ok(source) => Crl::decode(alloc, source),
+    let mut copies = Vec::new(alloc);
+    for one in octets {
+        let copy = Bytes::copy_from_slice(alloc, one.octets)?;
+        copies.push(copy)?;
+    }
+    Ok(copies)
+}
+
+/// The question that is asked, of these copies.
+fn posed<'a>(question: &Question<'_>, copies: &'a Copies, moment: Time) -> Posed<'a>
+    requires copied { AreCopies question.now copies.now }
+    requires moment { moment ≡ moment_in question.now.moment }
+    requires is_moment { IsMoment moment }
+    ensures { Asks question.now result }
+{
+    Posed {
+        anchor: &copies.anchor,
+        locator: None,
+        chain: &copies.chain,
+        lists: &copies.lists,
+        moment,
+        manner: manner_of(question),
+    }
+}
+
+/// The grounds of a question without a locator, or why it has none, in the words of C.
+fn grounds_posed(alloc: Global, posed: &Posed<'_>) -> Result<Grounds, Refusal>
+    requires { locator_octets posed.now ≡ None }
+    ensures { IsPosedGrounded posed.now result }
+{
+    match grounds::grounds_of(alloc, posed) {
+        Ok(grounds) => Ok(grounds),
+        Err(refusal) => Err(told_as(refusal)),
     }
 }

@@ -12,14 +12,15 @@ ghost use Rattle.rpki_routes.specs.Aspa.Checks.{aspa_kind};
 ghost use Rattle.rpki_routes.specs.Aspa.Form.{AspaForm};
 ghost use Rattle.rpki_routes.specs.Roa.Checks.{roa_kind};
 ghost use Rattle.rpki_routes.specs.Roa.Form.{RoaForm};
+ghost use Rattle.rpki_validation.specs.Grounds.{AreSame};
+ghost use Rattle.rpki_validation.specs.declared.grounds.Grounds.{Grounds};
 ghost use Rattle.rpki_check.specs.Decided.{EditionTells, FilesTell, IsGrantDecided, ObjectTells};
 ghost use Rattle.rpki_check.specs.Decided.{ObjectsTell, RowsTell};
 ghost use Rattle.rpki_check.specs.Files.{checked_files, listed_files};
-ghost use Rattle.rpki_check.specs.Grounds.{AreGroundsOf, AreSame, HasNoGrounds, manner_in};
+ghost use Rattle.rpki_check.specs.Grounds.{AreGroundsOf, HasNoGrounds, manner_in};
 ghost use Rattle.rpki_check.specs.Numbers.{no_memory, refusal_number};
 ghost use Rattle.rpki_check.specs.Object.{IsDecided};
 ghost use Rattle.rpki_check.specs.Rows.{numbers, payloads};
-ghost use Rattle.rpki_check.specs.declared.grounds.Grounds.{Grounds};
 ghost use Rattle.rpki_check.specs.declared.question.Question.{Question as QuestionOf};
 ghost use Rattle.rpki_check.specs.declared.refusal.Refusal.{Refusal};
 

@@ -9,7 +9,6 @@ mod edition;
 mod exports;
 mod files;
 mod grounds;
-mod issuer;
 mod kinds;
 mod laws;
 mod many;
@@ -18,7 +17,6 @@ mod object;
 mod question;
 mod refusal;
 mod report;
-mod revoked;
 mod room;
 mod rows;
 #[cfg(test)]

@@ -3,19 +3,22 @@
 ghost use Rattle.std.specs.Prelude.{◌≡◌, IfOk};
 ghost use Rattle.std.specs.List.{AllZip};
 ghost use Rattle.rpki_sigobj.specs.Object.{mode_of};
-ghost use Rattle.rpki_check.specs.Kinds.{OfKind};
+ghost use Rattle.rpki_validation.specs.Kinds.{OfKind};
 ghost use Rattle.rpki_check.specs.Many.{IsGrantStatus, IsManyCall, IsStatusAs, IsStatusOn};
 
 use crate::attestation::granted_on;
-use crate::grounds::{Grounds, grounds_of};
-use crate::kinds::{Asked, Kind, Lines, asked_for};
+use crate::grounds::grounds_of;
+use crate::kinds::{Asked, asked_for};
 use crate::numbers::{GOOD, NO_MEMORY};
 use crate::object::found_on;
-use crate::question::{Manner, Question, manner_of};
+use crate::question::{Question, manner_of};
 use crate::refusal::status_of;
 use crate::room::put;
 use rpki_files::{ManifestContent, ResourceSignedChecklist};
 use rpki_routes::{AsProviderAttestation, RouteOriginAttestation};
+use rpki_validation::grounds::Grounds;
+use rpki_validation::kinds::{Kind, Lines};
+use rpki_validation::question::Manner;
 use std::alloc::{AllocError, Global};
 
 /// Octets that are to begin with an object of a kind.

@@ -1,61 +1,33 @@
 //! What is found of octets that may begin with an object.
 
-ghost use Rattle.std.specs.Fn.{FnOnceTakesAt, FnOnceReturnsAt};
-ghost use Rattle.sha2.specs.Sha256.{sha256};
-ghost use Rattle.rpki_certs.specs.Cert.{KeptCertificate};
-ghost use Rattle.rpki_rsa.specs.Signature.{is_rsa_signature};
 ghost use Rattle.rpki_sigobj.specs.Object.{mode_of};
 ghost use Rattle.rpki_check.specs.Grounds.{manner_in};
-ghost use Rattle.rpki_check.specs.Object.{ChecksOn, IsFound, IsFoundOn, SaysAs, SaysOf};
+ghost use Rattle.rpki_check.specs.Object.{ChecksByLists, IsFound, IsFoundOn, ListsSay};
 ghost use Rattle.rpki_check.specs.Report.{IsObjectRead};
-ghost use Rattle.rpki_check.specs.declared.grounds.Grounds.{Grounds as GroundsOf};
 
-use crate::grounds::{Grounds, grounds_of};
-use crate::kinds::Lines;
-use crate::question::{Manner, Question, manner_of};
+use crate::grounds::grounds_of;
+use crate::question::{Question, manner_of};
 use crate::refusal::Refusal;
-use crate::revoked::ask;
 use bytes::Bytes;
 use rpki_certs::{Cert, ResourceCert};
-use rpki_faults::ValidationError;
-use rpki_rsa::Rsa;
-use rpki_signed::check;
+use rpki_faults::{ValidationError, VerificationError};
 use rpki_signed::check::CheckError;
 use rpki_sigobj::Signed;
+use rpki_validation::grounds::Grounds;
+use rpki_validation::kinds::Lines;
+use rpki_validation::object::check_asking;
+use rpki_validation::question::Manner;
+use rpki_validation::revoked::revoking;
 use std::alloc::Global;
-
-/// Whether octets begin with a good object on these grounds, with what `ask` says of its
-/// certificate. Where that is what the lists say, the answer is that by the lists.
-fn object_asking<T: Lines, F: FnOnce(&Cert) -> Result<(), ValidationError>>(
-    alloc: Global,
-    octets: Bytes,
-    manner: Manner,
-    grounds: &Grounds,
-    ask: F,
-) -> Result<(ResourceCert, T), CheckError>
-    requires { (k : KeptCertificate) → FnOnceTakesAt F.FnOnce ask k }
-    ensures { SaysAs (FnOnceReturnsAt F.FnOnce ask) grounds.now
-        → ChecksOn T.kind (T.form (T.rule_in manner)) (mode_of manner.strict) grounds.now octets
-        result }
-{
-    let rule = T::rule(manner);
-    check::object(
-        alloc,
-        octets,
-        manner.strict,
-        &grounds.issuer,
-        &Rsa,
-        grounds.moment,
-        ask,
-        rule,
-    )
-}
 
 /// What the lists of these grounds say of a certificate.
 fn ask_on(grounds: &Grounds, cert: &Cert) -> Result<(), ValidationError>
-    ensures { SaysOf grounds.now cert.now result }
+    ensures { ListsSay grounds.now cert.now result }
 {
-    ask(&grounds.lists, grounds.issuer.cert(), cert)
+    match revoking(&grounds.lists, grounds.issuer.cert(), cert) {
+        None => Ok(()),
+        Some(_) => Err(ValidationError::Verification(VerificationError::Caller)),
+    }
 }
 
 /// Whether octets begin with a good object on these grounds, whose certificate no list revokes.
@@ -65,10 +37,10 @@ fn check_on<T: Lines>(
     manner: Manner,
     grounds: &Grounds,
 ) -> Result<(ResourceCert, T), CheckError>
-    ensures { ChecksOn T.kind (T.form (T.rule_in manner)) (mode_of manner.strict) grounds.now
+    ensures { ChecksByLists T.kind (T.form (T.rule_in manner)) (mode_of manner.strict) grounds.now
         octets result }
 {
-    object_asking(alloc, octets, manner, grounds, |cert| ask_on(grounds, cert))
+    check_asking::<T, _>(alloc, octets, manner, grounds, |cert| ask_on(grounds, cert))
 }
 
 /// What is found of octets on these grounds.

@@ -5,6 +5,7 @@ ghost use Rattle.rpki_basics.specs.Moment.{IsMoment};
 ghost use Rattle.rpki_check.specs.Grounds.{manner_in, moment_in};
 
 use rpki_basics::{ManifestRule, ProviderLimit, Time};
+use rpki_validation::question::Manner;
 
 /// Octets that a caller lends.
 #[repr(C)]
@@ -43,17 +44,6 @@ pub struct Question<'a> {
     pub registered: u8,
     /// Whether a customer may have 16,380 providers, and not 10,000 at most, if not 0.
     pub wide: u8,
-}
-
-/// How objects are read.
-#[derive(Clone, Copy, Drop)]
-pub struct Manner {
-    /// Whether they are in DER.
-    pub strict: bool,
-    /// Which names a manifest may have.
-    pub names: ManifestRule,
-    /// How many providers a customer may have.
-    pub limit: ProviderLimit,
 }
 
 /// The moment of this date, if there is one.

@@ -2,6 +2,7 @@
 
 ghost use Rattle.std.specs.Prelude.{◌≡◌, Some};
 ghost use Rattle.rpki_check.specs.Numbers.{check_number, issuer_number, refusal_number, status_of};
+ghost use Rattle.rpki_check.specs.Refusal.{IsToldAs, IsUnlocated};
 ghost use Rattle.rpki_check.specs.Report.{refusal_text};
 ghost use Rattle.rpki_show.specs.Grows.{Grows};
 
@@ -11,8 +12,9 @@ use crate::numbers::{
 };
 use rpki_certs::IssuerError;
 use rpki_der::DecodeError;
-use rpki_faults::ValidationError;
+use rpki_faults::{ValidationError, VerificationError};
 use rpki_signed::check::CheckError;
+use rpki_validation::refusal::{CaFault, IssuerFault, Refusal as Cause};
 use std::alloc::AllocError;
 use std::fmt::Write;
 
@@ -56,6 +58,28 @@ impl Refusal {
             Refusal::Issuer(fault) => write!(text, "{fault}"),
             Refusal::Check(fault) => write!(text, "{fault}"),
         }
+    }
+}
+
+/// What C is told where no locator is named.
+pub fn told_as(cause: Cause) -> Refusal
+    requires { IsUnlocated cause }
+    ensures { IsToldAs cause result }
+{
+    match cause {
+        Cause::Memory => Refusal::Memory,
+        Cause::NoLocator => unreachable!(),
+        Cause::NoList(_) => Refusal::NoList,
+        Cause::Issuer(IssuerFault::Anchor(fault)) => Refusal::Issuer(fault),
+        Cause::Issuer(IssuerFault::OtherKey) => unreachable!(),
+        Cause::Issuer(IssuerFault::Chain(_, CaFault::Error(fault))) => Refusal::Issuer(fault),
+        Cause::Issuer(IssuerFault::Chain(_, CaFault::Revoked(_))) => Refusal::Issuer(
+            IssuerError::Validation(ValidationError::Verification(VerificationError::Revoked)),
+        ),
+        Cause::Check(fault) => Refusal::Check(fault),
+        Cause::Revoked(_) => Refusal::Check(CheckError::Validation(ValidationError::Verification(
+            VerificationError::Caller,
+        ))),
     }
 }
 

@@ -3,19 +3,21 @@
 ghost use Rattle.std.specs.Prelude.{◌≡◌, IfOk, string_bytes};
 ghost use Rattle.rpki_check.specs.Grounds.{manner_in};
 ghost use Rattle.rpki_sigobj.specs.Object.{mode_of};
+ghost use Rattle.rpki_validation.specs.Kinds.{OfKind};
 ghost use Rattle.rpki_check.specs.Calls.{IsObjectCall, IsShowCall};
-ghost use Rattle.rpki_check.specs.Kinds.{OfKind};
 ghost use Rattle.rpki_check.specs.Report.{IsReported, IsSaid, IsShown, refusal_text, text_of};
 
 use crate::attestation::{report_attestation, show_attestation};
-use crate::kinds::{Asked, Kind, Lines, asked_for};
+use crate::kinds::{Asked, asked_for};
 use crate::numbers::NO_MEMORY;
 use crate::object::{found_in, read_object};
-use crate::question::{Manner, Question};
+use crate::question::Question;
 use crate::refusal::{Refusal, status_of};
 use crate::room::put;
 use rpki_files::{ManifestContent, ResourceSignedChecklist};
 use rpki_routes::{AsProviderAttestation, RouteOriginAttestation};
+use rpki_validation::kinds::{Kind, Lines};
+use rpki_validation::question::Manner;
 use std::alloc::{AllocError, Global};
 
 /// The lines of a content.

@@ -5,7 +5,6 @@ ghost use Rattle.rpki_check.specs.Grounds.{manner_in};
 ghost use Rattle.rpki_check.specs.Rows.{IsPut, IsRowsCall, family_number, numbers, payload_of};
 ghost use Rattle.rpki_check.specs.Rows.{payloads};
 
-use crate::kinds::Lines;
 use crate::numbers::{GOOD, NO_MEMORY};
 use crate::object::found_in;
 use crate::question::Question;
@@ -13,6 +12,7 @@ use crate::refusal::Refusal;
 use crate::room::put;
 use rpki_resources::AddressFamily;
 use rpki_routes::{AsProviderAttestation, FriendlyRoaIpAddress, RouteOriginAttestation};
+use rpki_validation::kinds::Lines;
 use std::alloc::{AllocError, Global};
 
 /// The numbers of the families.

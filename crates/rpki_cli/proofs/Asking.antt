@@ -3,21 +3,20 @@ use Rattle.std.proofs.Common.{◌≡◌, ◌+◌, ◌≤◌, ℕ, List, ◌++◌
 use Rattle.std.proofs.Common.{ap, ◌∙◌, arith, length}
 use Rattle.std.proofs.lemmas.List.{append-nil, length-append, length-map, map-append, take_all}
 use Rattle.std.specs.Borrow.{Bor}
-use Rattle.rpki_cli.specs.Answer.{Output, unreadable, out_of_memory}
+use Rattle.rpki_cli.specs.Answer.{Output, cannot_read, out_of_memory}
 use Rattle.rpki_cli.specs.Command.{AreReadAtMost, IsOfFiles}
 use Rattle.rpki_cli.specs.Store.{Told, Names, AreAllRead, IsFirstUnreadable, AreSomeRead}
 use Rattle.rpki_cli.specs.Words.{texts, chain_in, paths_in, others_in}
-use Rattle.rpki_cli.specs.declared.causes.Causes.{Causes}
 use Rattle.rpki_cli.specs.declared.store.Reason.{Reason}
 use Rattle.rpki_cli.specs.declared.store.Unread.TheVariants as reads
 
 -- the same names
-pub of-same : (causes : Causes) (told : Told) (seen names all : List (Bor (List ℕ)))
+pub of-same : (told : Told) (seen names all : List (Bor (List ℕ)))
     (P : List (List ℕ) → Output → Type 0) (old new : Names) (s : Output)
-    → IsOfFiles causes told (texts seen) P old new s → names ≡ all → seen ≡ names
-    → IsOfFiles causes told (texts all) P old new s
-of-same causes told seen names all P old new s h e d =
-    subst (λ (ns : List (Bor (List ℕ))). IsOfFiles causes told (texts ns) P old new s) (d ∙ e) h
+    → IsOfFiles told (texts seen) P old new s → names ≡ all → seen ≡ names
+    → IsOfFiles told (texts all) P old new s
+of-same told seen names all P old new s h e d =
+    subst (λ (ns : List (Bor (List ℕ))). IsOfFiles told (texts ns) P old new s) (d ∙ e) h
 
 pub read-same : (seen names all : List (Bor (List ℕ))) (old new : Names)
     → AreReadAtMost (texts seen) old new → names ≡ all → seen ≡ names
@@ -40,12 +39,12 @@ texts-append first others names e =
     ∙ ap (λ (ns : List (List ℕ)). texts first ++ ns) e
 
 -- the same names
-pub of-tail : (causes : Causes) (told : Told) (first others seen : List (Bor (List ℕ))) (names : List (List ℕ))
+pub of-tail : (told : Told) (first others seen : List (Bor (List ℕ))) (names : List (List ℕ))
     (P : List (List ℕ) → Output → Type 0) (old new : Names) (s : Output)
-    → IsOfFiles causes told (texts (first ++ seen)) P old new s → texts others ≡ names
-    → seen ≡ others → IsOfFiles causes told (texts first ++ names) P old new s
-of-tail causes told first others seen names P old new s h e d =
-    subst (λ (ns : List (List ℕ)). IsOfFiles causes told ns P old new s)
+    → IsOfFiles told (texts (first ++ seen)) P old new s → texts others ≡ names
+    → seen ≡ others → IsOfFiles told (texts first ++ names) P old new s
+of-tail told first others seen names P old new s h e d =
+    subst (λ (ns : List (List ℕ)). IsOfFiles told ns P old new s)
     (texts-append first seen names (ap texts d ∙ e)) h
 
 pub read-tail : (first others seen : List (Bor (List ℕ))) (names : List (List ℕ))
@@ -84,26 +83,26 @@ anchor-names n first others seen names l e d =
     )
 
 -- the first file that can't be read
-pub of-unreadable : (causes : Causes) (told : Told) (names : List (List ℕ))
+pub of-unreadable : (told : Told) (names : List (List ℕ))
     (P : List (List ℕ) → Output → Type 0) (old new : Names) (name : Bor (List ℕ))
     (reason : Reason) (s : Output)
-    → IsFirstUnreadable told names old new name.now reason → s ≡ unreadable causes name.now reason
-    → IsOfFiles causes told names P old new s
-of-unreadable causes told names P old new name reason s u e =
+    → IsFirstUnreadable told names old new name.now reason → s ≡ cannot_read name.now
+    → IsOfFiles told names P old new s
+of-unreadable told names P old new name reason s u e =
     inr (Err (reads.Unreadable name reason), u, e)
 
 -- some are read, until memory runs out
-pub of-some-read : (causes : Causes) (told : Told) (names : List (List ℕ)) (P : List (List ℕ) → Output → Type 0)
+pub of-some-read : (told : Told) (names : List (List ℕ)) (P : List (List ℕ) → Output → Type 0)
     (old new : Names) (s : Output) → AreSomeRead told names old new → s ≡ out_of_memory
-    → IsOfFiles causes told names P old new s
-of-some-read causes told names P old new s a e = inr (Err reads.Memory, a, e)
+    → IsOfFiles told names P old new s
+of-some-read told names P old new s a e = inr (Err reads.Memory, a, e)
 
 -- all are read
-pub of-all-read : (causes : Causes) (told : Told) (names : List (List ℕ)) (P : List (List ℕ) → Output → Type 0)
+pub of-all-read : (told : Told) (names : List (List ℕ)) (P : List (List ℕ) → Output → Type 0)
     (old new : Names) (files : Vec (List ℕ) Global) (seen : List (List ℕ)) (s : Output)
     → AreAllRead told names old new files.items → P seen s → seen ≡ files.items
-    → IsOfFiles causes told names P old new s
-of-all-read causes told names P old new files seen s a h e = inr (
+    → IsOfFiles told names P old new s
+of-all-read told names P old new files seen s a h e = inr (
   Ok files,
   a,
   subst (λ (fs : List (List ℕ)). P fs s) e h,

@@ -1,5 +1,6 @@
 pub mod Anchored
 pub mod Asking
+pub mod Clocks
 pub mod Following
 pub mod Named
 pub mod Orders
@@ -7,4 +8,3 @@ pub mod Reading
 pub mod Running
 pub mod Saying
 pub mod Tail
-pub mod Verified

@@ -6,51 +6,44 @@ use Rattle.std.proofs.Math.Seq.{get_or-append_seam}
 use Rattle.std.proofs.lemmas.Bool.{cases_order}
 use Rattle.std.proofs.lemmas.List.{append_assoc, get_or_append_left, length-append, take_at}
 use Rattle.std.specs.Prelude.{◌⊎◌}
-use Rattle.rpki_cli.specs.Answer.{Run, Output, IsSaid, unreadable, out_of_memory, shown}
-use Rattle.rpki_cli.specs.Command.{IsOfRead, IsOfFile, Task, Say, ShowLines, CheckFiles, Program}
+use Rattle.rpki_cli.specs.Answer.{Run, Output, IsSaid, cannot_read, out_of_memory, malformed, shown}
+use Rattle.rpki_cli.specs.Command.{IsOfRead, IsOfFile, Task, ShowLines, CheckFiles, Program}
 use Rattle.rpki_cli.specs.Command.{order_task, IsOfReads, IsOfFiles, AreTold, ChecksFiles}
 use Rattle.rpki_cli.specs.Command.{IsTaskAnswer, IsAnswer, OrOutOfMemory, Shows, IsTaskDone}
-use Rattle.rpki_cli.specs.Command.{HasRead, IsRunOf, HaveRead, IsRunWith, IsSaidUnread, IsStartOf}
-use Rattle.rpki_cli.specs.Command.{DoSet, IsOfSet, DoesSet}
-use Rattle.rpki_cli.specs.Arguments.{ToldArguments, AreTexts}
+use Rattle.rpki_cli.specs.Command.{HasRead, IsRunOf, HaveRead}
 use Rattle.rpki_cli.specs.Shown.{HasNoLines, IsSaidOf, IsShown}
-use Rattle.rpki_cli.specs.Refusal.{IsMalformed}
 use Rattle.rpki_cli.specs.Store.{Told, Names, IsRead, AreRead, AreReadTo, AreAllRead}
 use Rattle.rpki_cli.specs.Store.{IsFirstUnreadable, with_octets}
 use Rattle.rpki_cli.specs.Language.{Language, IsAsked, AskForNothing}
-use Rattle.rpki_cli.specs.declared.causes.Causes.{Causes}
+use Rattle.rpki_cli.specs.declared.causes.Causes.TheVariants.{Omitted}
 use Rattle.rpki_cli.specs.declared.store.Reason.{Reason}
 use Rattle.rpki_cli.specs.declared.store.Unread.{Unread}
 use Rattle.rpki_cli.specs.declared.store.Unread.TheVariants as reads
 use Rattle.rpki_cli.specs.declared.store.StoreError.{StoreError}
 use Rattle.rpki_cli.specs.declared.store.StoreError.TheVariants.{Unreadable, Memory}
-use Rattle.rpki_cli.specs.declared.words.Options.{Options}
 use Rattle.rpki_cli.specs.declared.words.Order.{Order}
 
-pub said-as : (s is : Output) (run : Run) → s ≡ is → IsSaid s run → IsSaid is run
+said-as : (s is : Output) (run : Run) → s ≡ is → IsSaid s run → IsSaid is run
 said-as s is run e h = subst (λ (x : Output). IsSaid x run) e h
 
 -- ---- a file that is shown
 
-module _ (causes : Causes) (lines_of : List ℕ → List ℕ → Type 0) (s : Output) (run : Run)
-    (h : IsSaid s run) where
+module _ (lines_of : List ℕ → List ℕ → Type 0) (s : Output) (run : Run) (h : IsSaid s run) where
   unreadable-said : (file : List ℕ) (why : Reason) (P : List ℕ → Output → Type 0)
       (read : Result (List ℕ) StoreError) → IsRead (Some (Err why)) read
-      → IsOfRead causes file P read s → OrOutOfMemory (unreadable causes file why) run
+      → IsOfRead file P read s → OrOutOfMemory (cannot_read file) run
   unreadable-said file why P (Ok octets) r o = absurd r
   unreadable-said file why P (Err Memory) r o = inl (said-as s out_of_memory run o h)
   unreadable-said file why P (Err (Unreadable reason)) r o =
-      inr (said-as s (unreadable causes file why) run
-      (o ∙ ap (λ (e : Reason). unreadable causes file e) r) h)
+      inr (said-as s (cannot_read file) run o h)
 
   malformed-said : (octets : List ℕ) → HasNoLines lines_of octets
-      → IsSaidOf causes lines_of octets s
-      → IsSaid out_of_memory run ⊎ ((x : Output) × IsMalformed causes x × IsSaid x run)
+      → IsSaidOf Omitted lines_of octets s → OrOutOfMemory malformed run
   malformed-said octets none (inl e) = inl (said-as s out_of_memory run e h)
-  malformed-said octets none (inr (inl m)) = inr (s, m.0, h)
+  malformed-said octets none (inr (inl m)) = inr (said-as s malformed run m.0 h)
   malformed-said octets none (inr (inr f)) = absurd (none f.0 (f.1).these)
 
-  shown-said : (octets lines : List ℕ) → lines_of octets lines → IsSaidOf causes lines_of octets s
+  shown-said : (octets lines : List ℕ) → lines_of octets lines → IsSaidOf Omitted lines_of octets s
       → OrOutOfMemory (shown lines) run
   shown-said octets lines is (inl e) = inl (said-as s out_of_memory run e h)
   shown-said octets lines is (inr (inl m)) = absurd (m.1 lines is)
@@ -59,24 +52,23 @@ module _ (causes : Causes) (lines_of : List ℕ → List ℕ → Type 0) (s : Ou
       (said-as s (shown f.0) run f.2 h))
 
   of-octets : (file octets : List ℕ) (Q : Type 0) (read : Result (List ℕ) StoreError)
-      → IsRead (Some (Ok octets)) read → IsOfRead causes file (IsShown causes lines_of) read s
-      → (IsShown causes lines_of octets s → IsSaid out_of_memory run ⊎ Q)
+      → IsRead (Some (Ok octets)) read → IsOfRead file (IsShown Omitted lines_of) read s
+      → (IsShown Omitted lines_of octets s → IsSaid out_of_memory run ⊎ Q)
       → IsSaid out_of_memory run ⊎ Q
   of-octets file octets Q (Ok v) r o k =
-      k (subst (λ (b : List ℕ). IsShown causes lines_of b s) r o)
+      k (subst (λ (b : List ℕ). IsShown Omitted lines_of b s) r o)
   of-octets file octets Q (Err Memory) r o k = inl (said-as s out_of_memory run o h)
   of-octets file octets Q (Err (Unreadable reason)) r o k = absurd r
 
-  shows : (told : Told) (file : List ℕ) → IsOfFile causes told file (IsShown causes lines_of) s
-      → Shows causes told file lines_of run
+  shows : (told : Told) (file : List ℕ) → IsOfFile told file (IsShown Omitted lines_of) s
+      → Shows told file lines_of run
   shows told file a =
       let tells : (t : Option (Result (List ℕ) Reason)) → told file ≡ t → IsRead t a.0 =
       λ t e. subst (λ (t : Option (Result (List ℕ) Reason)). IsRead t a.0) e a.1 in
       record {
-        unreadable = λ why e. unreadable-said file why (IsShown causes lines_of) a.0
+        unreadable = λ why e. unreadable-said file why (IsShown Omitted lines_of) a.0
             (tells (Some (Err why)) e) a.2;
-        malformed = λ octets e none. of-octets file octets
-            ((x : Output) × IsMalformed causes x × IsSaid x run) a.0
+        malformed = λ octets e none. of-octets file octets (IsSaid malformed run) a.0
             (tells (Some (Ok octets)) e) a.2 (λ h. malformed-said octets none h.said);
         shown = λ octets lines e is. of-octets file octets (IsSaid (shown lines) run) a.0
             (tells (Some (Ok octets)) e) a.2 (λ h. shown-said octets lines is h.said);
@@ -176,18 +168,11 @@ first-is told before after octets file why old new name reason u t e =
           (subst (λ (n : List ℕ). told n ≡ Some (Err why)) (sym (at-file before after file [])) e))
     ]
 
--- the reason is the one that is told
-why-is : (told : Told) (name file : List ℕ) (reason why : Reason) → name ≡ file
-    → told file ≡ Some (Err why) → IsRead (told name) (Err (Unreadable reason)) → reason ≡ why
-why-is told name file reason why same e r =
-    subst (λ (x : Option (Result (List ℕ) Reason)). IsRead x (Err (Unreadable reason))) e
-    (subst (λ (n : List ℕ). IsRead (told n) (Err (Unreadable reason))) same r)
-
-module _ (causes : Causes) (told : Told) (P : List (List ℕ) → Output → Type 0) (old new : Names)
+module _ (told : Told) (P : List (List ℕ) → Output → Type 0) (old new : Names)
     (s : Output) (run : Run) (h : IsSaid s run) where
   of-reads : (names octets : List (List ℕ)) → AreTold told names octets
       → (read : Result (Vec (List ℕ) Global) Unread) → AreRead told names old new read
-      → IsOfReads causes P read s
+      → IsOfReads P read s
       → IsSaid out_of_memory run
       ⊎ ((new ≡ old ++ names) × (x : Output) × P octets x × IsSaid x run)
   of-reads names octets t (Ok files) a o = inr (
@@ -204,25 +189,22 @@ module _ (causes : Causes) (told : Told) (P : List (List ℕ) → Output → Typ
   of-unread : (before after octets : List (List ℕ)) (file : List ℕ) (why : Reason)
       → AreTold told before octets → told file ≡ Some (Err why)
       → (read : Result (Vec (List ℕ) Global) Unread)
-      → AreRead told (before ++ file ∷ after) old new read → IsOfReads causes P read s
+      → AreRead told (before ++ file ∷ after) old new read → IsOfReads P read s
       → IsSaid out_of_memory run
-      ⊎ ((new ≡ old ++ (before ++ file ∷ [])) × IsSaid (unreadable causes file why) run)
+      ⊎ ((new ≡ old ++ (before ++ file ∷ [])) × IsSaid (cannot_read file) run)
   of-unread before after octets file why t e (Ok files) a o =
       absurd (one-unread told before after file why old new files.items a e)
   of-unread before after octets file why t e (Err (reads.Unreadable name reason)) a o =
       let first = first-is told before after octets file why old new name.now reason a t e in
-      let same : reason ≡ why = why-is told name.now file reason why first.0 e a.unreadable in
       inr (
         first.1,
-        said-as s (unreadable causes file why) run
-            (o ∙ ap (λ (n : List ℕ). unreadable causes n reason) first.0
-            ∙ ap (λ (r : Reason). unreadable causes file r) same) h,
+        said-as s (cannot_read file) run (o ∙ ap (λ (n : List ℕ). cannot_read n) first.0) h,
       )
   of-unread before after octets file why t e (Err reads.Memory) a o =
       inl (said-as s out_of_memory run o h)
 
   all-told : (names octets : List (List ℕ)) → AreTold told names octets
-      → IsOfFiles causes told names P old new s
+      → IsOfFiles told names P old new s
       → IsSaid out_of_memory run
       ⊎ ((new ≡ old ++ names) × (x : Output) × P octets x × IsSaid x run)
   all-told names octets t (inl m) = inl (said-as s out_of_memory run m.0 h)
@@ -230,92 +212,48 @@ module _ (causes : Causes) (told : Told) (P : List (List ℕ) → Output → Typ
 
   one-told : (before after octets : List (List ℕ)) (file : List ℕ) (why : Reason)
       → AreTold told before octets → told file ≡ Some (Err why)
-      → IsOfFiles causes told (before ++ file ∷ after) P old new s
+      → IsOfFiles told (before ++ file ∷ after) P old new s
       → IsSaid out_of_memory run
-      ⊎ ((new ≡ old ++ (before ++ file ∷ [])) × IsSaid (unreadable causes file why) run)
+      ⊎ ((new ≡ old ++ (before ++ file ∷ [])) × IsSaid (cannot_read file) run)
   one-told before after octets file why t e (inl m) = inl (said-as s out_of_memory run m.0 h)
   one-told before after octets file why t e (inr r) =
       of-unread before after octets file why t e r.0 r.1 r.2
 
-  checks : (names : List (List ℕ)) → IsOfFiles causes told names P old new s
-      → ChecksFiles causes told names P old new run
+  checks : (names : List (List ℕ)) → IsOfFiles told names P old new s
+      → ChecksFiles told names P old new run
   checks names is = record {
     checked = λ octets t. all-told names octets t is;
     unreadable = λ before after octets file why e t u. one-told before after octets file why t u
-        (subst (λ (ns : List (List ℕ)). IsOfFiles causes told ns P old new s) e is);
-  }
-
--- ---- what words set
-
--- Words set one thing at most, and are not wrong then; and `P` is true of what they set.
-pub record IsSettledSet (C : Type 0) (IsSet : C → Type 0) (IsWrong : Output → Type 0)
-    (P : C → Type 0) : Type 0 where
-  pub once : (c d : C) → IsSet c → IsSet d → c ≡ d
-  pub apart : (c : C) (s : Output) → IsSet c → IsWrong s → ⊥
-  pub each : (c : C) → IsSet c → P c
-
--- a task says for each store one thing to be done
-abbrev pub IsSettled : Task → Type 0
-IsSettled (Say x) = Unit {0}
-IsSettled (ShowLines causes file lines_of) = Unit {0}
-IsSettled (CheckFiles causes files P) = Unit {0}
-IsSettled (DoSet C IsSet IsWrong task) = IsSettledSet C IsSet IsWrong (λ c. IsSettled (task c))
-
-module _ (C : Type 0) (IsSet : C → Type 0) (IsWrong : Output → Type 0) (Q A D : C → Type 0)
-    (settled : IsSettledSet C IsSet IsWrong Q) (step : (c : C) → IsSet c → A c → D c)
-    (old new : Names) (s : Output) (run : Run) (h : IsSaid s run) where
-  does-set : IsOfSet C IsSet IsWrong A old new s → DoesSet C IsSet IsWrong D run
-  does-set (inl m) = record {
-    set = λ c i. inl (said-as s out_of_memory run m.0 h);
-    wrong = λ n. inl (said-as s out_of_memory run m.0 h);
-  }
-  does-set (inr (inl w)) = record {
-    set = λ c i. absurd (settled.apart c s i w.0);
-    wrong = λ n. inr (s, w.0, h);
-  }
-  does-set (inr (inr f)) = record {
-    set = λ c i. inr (step c i (subst A (settled.once f.0 c f.1 i) f.2));
-    wrong = λ n. absurd (n f.0 f.1);
+        (subst (λ (ns : List (List ℕ)). IsOfFiles told ns P old new s) e is);
   }
 
 -- ---- the whole
 
 module _ (told : Told) (old new : Names) (s : Output) (run : Run) (h : IsSaid s run) where
-  pub task-done : (task : Task) → IsSettled task → IsTaskAnswer told task old new s
-      → IsTaskDone told task old new run
-  task-done (Say x) e a = said-as s x run a h
-  task-done (ShowLines causes file lines_of) e a = shows causes lines_of s run h told file a
-  task-done (CheckFiles causes files P) e a = checks causes told P old new s run h files a
-  task-done (DoSet C IsSet IsWrong task) e a =
-      does-set C IsSet IsWrong (λ c. IsSettled (task c))
-      (λ c. IsTaskAnswer told (task c) old new s) (λ c. IsTaskDone told (task c) old new run) e
-      (λ c i b. task-done (task c) (e.each c i) b) old new s run h a
+  task-done : (task : Task) → IsTaskAnswer told task old new s → IsTaskDone told task old new run
+  task-done (ShowLines file lines_of) a = shows lines_of s run h told file a
+  task-done (CheckFiles files P) a = checks told P old new s run h files a
 
 -- no words ask a program for two things
 abbrev pub IsAskedOnce : Language → Type 0
 IsAskedOnce l = (words : List (List ℕ)) (a b : Order l.Command) → IsAsked l words a
     → IsAsked l words b → a ≡ b
 
--- what is asked of a program is settled
-abbrev pub AreSettled : Program → Type 0
-AreSettled p = (options : Options) (command : p.language.Command) → IsSettled (p.task options command)
-
 module _ (p : Program) (once : IsAskedOnce p.language) (told : Told) (old new : Names)
     (words : List (List ℕ)) where
-  module _ (settled : AreSettled p) (s : Output) (is : IsAnswer p told words old new s)
-      (run : Run) (h : IsSaid s run) where
+  module _ (s : Output) (is : IsAnswer p told words old new s) (run : Run) (h : IsSaid s run) where
     order-done : (o : Order p.language.Command) → IsAsked p.language words o
         → IsAnswer p told words old new s → IsTaskDone told (order_task p o) old new run
     order-done o asked (inl a) =
-        task-done told old new s run h (order_task p o) (settled o.options o.command)
+        task-done told old new s run h (order_task p o)
         (subst (λ (q : Order p.language.Command). IsTaskAnswer told (order_task p q) old new s)
         (once words a.0 o a.1 asked) a.2)
     order-done o asked (inr a) = absurd (a.0 o asked)
 
     wrong-said : AskForNothing p.language words → IsAnswer p told words old new s
-        → IsSaid (p.wrong words) run
+        → IsSaid p.wrong run
     wrong-said nothing (inl a) = absurd (nothing a.0 a.1)
-    wrong-said nothing (inr a) = said-as s (p.wrong words) run a.1 h
+    wrong-said nothing (inr a) = said-as s p.wrong run a.1 h
 
     pub run-said : IsRunOf p told words old new run
     run-said = record {
@@ -333,12 +271,3 @@ module _ (p : Program) (once : IsAskedOnce p.language) (told : Told) (old new : 
         (λ (q : Order p.language.Command). HasRead (order_task p q) old new)
         (once words o other asked also) has;
   }
-
--- the words follow, and are run unless memory runs out
-pub of-words : (p : Program) (arguments : ToldArguments) (told : Told) (words : List (List ℕ))
-    (old new : Names) (run : Run)
-    → AreTexts arguments words
-    → IsSaidUnread out_of_memory old new run ⊎ IsRunWith p told words old new run
-    → IsStartOf p arguments told old new run
-of-words p arguments told words old new run f (inl h) = inr (inr h)
-of-words p arguments told words old new run f (inr h) = inl (words, f, h)

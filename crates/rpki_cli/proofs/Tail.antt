@@ -75,41 +75,32 @@ at-word : (words : List (Bor (List ℕ))) (k : ℕ) (d : Bor (List ℕ)) (e : Li
     → get_or (texts words) k e ≡ (get_or words k d).now
 at-word words k d e l = get_or-mapped (λ (x : Bor (List ℕ)). x.now) words k d e l
 
--- a word of the list is this one
-pub word-there : (word : List ℕ) (words : List (Bor (List ℕ))) (k : ℕ) (d : Bor (List ℕ))
-    → k < length words → bytes_eq (get_or words k d).now word ≡ true → Contains (texts words) word
-word-there word words k d l e =
-    let is : (get_or words k d).now ≡ word = (bytes_eq-Decides (get_or words k d).now word).0 e in (
-      k,
-      omega (arith, l, length-map words (λ (x : Bor (List ℕ)). x.now)),
-      at-word words k d word l ∙ is,
-    )
-
 -- a word of the list is `with`
 pub with-at : (words : List (Bor (List ℕ))) (k : ℕ) (d : Bor (List ℕ)) → k < length words
     → is_with (get_or words k d).now ≡ true → Contains (texts words) word_with
-with-at words k d l e = word-there word_with words k d l e
+with-at words k d l e =
+    let is : (get_or words k d).now ≡ word_with =
+    (bytes_eq-Decides (get_or words k d).now word_with).0 e in (
+      k,
+      omega (arith, l, length-map words (λ (x : Bor (List ℕ)). x.now)),
+      at-word words k d word_with l ∙ is,
+    )
 
 not-both : (b : Bool) → b ≡ true → b ≡ false → ⊥
 not-both b t f = cc
-
--- none is
-pub word-nowhere : (word : List ℕ) (words : List (Bor (List ℕ)))
-    → ((k : ℕ) (d : Bor (List ℕ)) → k < length words
-    → bytes_eq (get_or words k d).now word ≡ false) → Contains (texts words) word → ⊥
-word-nowhere word [] none c = absurd (omega (arith, c.1))
-word-nowhere word (w ∷ ws) none c =
-    let l : c.0 < length (w ∷ ws) =
-    omega (arith, c.1, length-map (w ∷ ws) (λ (x : Bor (List ℕ)). x.now)) in
-    let e : (get_or (w ∷ ws) c.0 w).now ≡ word = sym (at-word (w ∷ ws) c.0 w word l) ∙ c.2 in
-    not-both (bytes_eq (get_or (w ∷ ws) c.0 w).now word)
-    ((bytes_eq-Decides (get_or (w ∷ ws) c.0 w).now word).1 e) (none c.0 w l)
 
 -- none is `with`
 pub without-with : (words : List (Bor (List ℕ)))
     → ((k : ℕ) (d : Bor (List ℕ)) → k < length words → is_with (get_or words k d).now ≡ false)
     → Contains (texts words) word_with → ⊥
-without-with words none c = word-nowhere word_with words none c
+without-with [] none c = absurd (omega (arith, c.1))
+without-with (w ∷ ws) none c =
+    let l : c.0 < length (w ∷ ws) =
+    omega (arith, c.1, length-map (w ∷ ws) (λ (x : Bor (List ℕ)). x.now)) in
+    let e : (get_or (w ∷ ws) c.0 w).now ≡ word_with =
+    sym (at-word (w ∷ ws) c.0 w word_with l) ∙ c.2 in
+    not-both (bytes_eq (get_or (w ∷ ws) c.0 w).now word_with)
+    ((bytes_eq-Decides (get_or (w ∷ ws) c.0 w).now word_with).1 e) (none c.0 w l)
 
 module _ (chain pairs : List (Bor (List ℕ))) (tail : List (List ℕ)) (a : Bool)
     (before : texts chain ≡ chain_in tail) (is : a ≡ are_named (texts chain)) where
@@ -132,19 +123,3 @@ module _ (chain pairs : List (Bor (List ℕ))) (tail : List (List ℕ)) (a : Boo
   unnamed-chain f =
       f ∙ ap (λ (x : Bool). x && are_named (paths_in tail)) (sym f ∙ (is ∙ ap are_named before))
       ∙ sym (named-append (chain_in tail) (paths_in tail))
-
--- words that begin with this one
-pub first-word : (words : List (Bor (List ℕ))) (d : Bor (List ℕ)) (word : List ℕ)
-    → 1 ≤ length words → (get_or words 0 d).now ≡ word
-    → texts words ≡ word ∷ texts (take (length words - 1) (drop 1 words))
-first-word [] d word l e = absurd (omega (arith, l))
-first-word (w ∷ words) d word l e =
-    ap (λ (x : List ℕ). x ∷ texts words) e
-    ∙ ap (λ (l : List (Bor (List ℕ))). word ∷ texts l) (sym (take_rest (w ∷ words) 1))
-
--- the same, where what stands for no word is not this one
-pub first-there : (words : List (Bor (List ℕ))) (d : Bor (List ℕ)) (o : ℕ) (word : List ℕ)
-    → d.now ≡ [] → (get_or words 0 d).now ≡ o ∷ word
-    → texts words ≡ (o ∷ word) ∷ texts (take (length words - 1) (drop 1 words))
-first-there [] d o word n e = absurd cc
-first-there (w ∷ words) d o word n e = first-word (w ∷ words) d (o ∷ word) (omega arith) e

@@ -1,10 +1,10 @@
 pub mod Answer
 pub mod Arguments
+pub mod Clock
 pub mod Command
 pub mod Language
 pub mod Options
 pub mod Refusal
 pub mod Shown
 pub mod Store
-pub mod Verify
 pub mod Words

@@ -1,5 +1,5 @@
 -- What the options ask of objects and contents.
-use Rattle.std.specs.Prelude.{if◌then◌else◌, ◌||◌}
+use Rattle.std.specs.Prelude.{if◌then◌else◌}
 use Rattle.rpki_basics.specs.declared.limits.ManifestRule.{ManifestRule}
 use Rattle.rpki_basics.specs.declared.limits.ManifestRule.TheVariants.{Any, Registered}
 use Rattle.rpki_basics.specs.declared.limits.ProviderLimit.{ProviderLimit}
@@ -13,11 +13,3 @@ provider_limit o = if o.wide then Wide else Narrow
 -- which names a manifest may have: registered extensions, and none twice, with `--registered`
 abbrev pub manifest_rule : Options → ManifestRule
 manifest_rule o = if o.registered then Registered else Any
-
--- what is set by either of two lists of options is set
-abbrev pub either_options : Options → Options → Options
-either_options o p = record {
-  relaxed = o.relaxed || p.relaxed;
-  registered = o.registered || p.registered;
-  wide = o.wide || p.wide;
-}

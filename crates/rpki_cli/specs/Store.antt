@@ -1,9 +1,10 @@
 -- What a store tells of a file, and what a read of it answers.
-use Rattle.std.specs.Prelude.{◌≡◌, ℕ, ◌+◌, ◌<◌, List, ◌++◌, take, length, slice_index_or, codes}
+use Rattle.std.specs.Prelude.{◌≡◌, ℕ, ◌+◌, ◌<◌, List, [], ◌++◌, take, length, slice_index_or, codes}
 use Rattle.std.specs.Prelude.{Option, None, Some, Result, Ok, Err, Vec}
 use Rattle.std.specs.declared.alloc.Global.{Global}
-use Rattle.rpki_cli.specs.Answer.{memory_text, reason_text}
+use Rattle.rpki_cli.specs.Answer.{memory_text}
 use Rattle.rpki_cli.specs.declared.store.Reason.{Reason}
+use Rattle.rpki_cli.specs.declared.store.Reason.TheVariants.{NotFound, NotPermitted, Folder, Untold}
 use Rattle.rpki_cli.specs.declared.store.StoreError.{StoreError}
 use Rattle.rpki_cli.specs.declared.store.StoreError.TheVariants.{Unreadable, Memory}
 use Rattle.rpki_cli.specs.declared.store.Unread.{Unread}
@@ -82,6 +83,13 @@ AreRead told names old new (Ok files) = AreAllRead told names old new files.item
 AreRead told names old new (Err (unread.Unreadable name reason)) =
     IsFirstUnreadable told names old new name.now reason
 AreRead told names old new (Err unread.Memory) = AreSomeRead told names old new
+
+-- why a file can't be read, after its name, where the system tells it
+abbrev pub reason_text : Reason → List ℕ
+reason_text NotFound = codes ": no such file"
+reason_text NotPermitted = codes ": permission denied"
+reason_text Folder = codes ": is a folder"
+reason_text Untold = []
 
 -- that a file can't be read, as a text
 abbrev pub unreadable_text : List ℕ

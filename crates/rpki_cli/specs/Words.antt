@@ -1,7 +1,7 @@
 -- The command line: what options and commands are written as.
 use Rattle.std.specs.Prelude.{◌≡◌, ℕ, List, [], ◌∷◌, ◌++◌, Bool, true, false, not, ◌&&◌, ◌||◌, ◌==◌}
-use Rattle.std.specs.Prelude.{length, map, codes, Contains, IsTrue, if◌then◌else◌, nat_lt}
-use Rattle.std.specs.List.{before_first, after_first, slice_split, flat_map, list_all, list_any}
+use Rattle.std.specs.Prelude.{length, map, codes, Contains, IsTrue, if◌then◌else◌}
+use Rattle.std.specs.List.{before_first, after_first, slice_split, flat_map, list_all}
 use Rattle.std.specs.Str.{bytes_eq}
 use Rattle.std.specs.Borrow.{Bor}
 use Rattle.rpki_basics.specs.Moment.{Moment, IsMoment}
@@ -151,18 +151,6 @@ files_of (Rta file moment verdicts anchors) = file ∷ verdicts ∷ files_of_anc
 abbrev pub are_named : List (List ℕ) → Bool
 are_named [] = true
 are_named (file ∷ files) = not (length file == 0) && are_named files
-
--- whether an octet is a control character (RFC 20, section 5.2)
-abbrev pub is_control : ℕ → Bool
-is_control octet = nat_lt octet 0x20 || (octet == 0x7F)
-
--- Whether a name is plain: it has no control character.
-abbrev pub is_plain : List ℕ → Bool
-is_plain name = not (list_any is_control name)
-
--- whether each of these names is plain
-abbrev pub are_plain : List (List ℕ) → Bool
-are_plain names = list_all is_plain names
 
 -- A command is proper: its moment, where it has one, is one of the calendar (RFC 5280, section
 -- 4.1.2.5), the words of a walk have a `with` after the trust anchor, and those of an attestation

@@ -22,7 +22,7 @@ pub fn is_locator(word: &str) -> bool
 }
 
 /// Whether a word names an anchor.
-pub fn is_anchor(word: &str) -> bool
+fn is_anchor(word: &str) -> bool
     ensures { result ≡ is_anchor word.now }
 {
     is_locator(word) || name_of(word) == CA
@@ -74,7 +74,7 @@ pub fn count_of(word: &str) -> usize
 }
 
 /// Whether each file that a word names has a name.
-pub fn is_named(word: &str) -> bool
+fn is_named(word: &str) -> bool
     ensures { result ≡ are_named (files_of_anchor word.now) }
 {
     if is_locator(word) {

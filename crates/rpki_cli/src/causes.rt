@@ -2,18 +2,17 @@
 
 ghost use Rattle.std.specs.Prelude.{◌≡◌, IfOk, string_bytes};
 ghost use Rattle.rpki_der.specs.Text.Error.{fault_text};
-ghost use Rattle.rpki_cli.specs.Answer.{said, unreadable};
+ghost use Rattle.rpki_cli.specs.Answer.{said};
 ghost use Rattle.rpki_cli.specs.Command.{unread};
 ghost use Rattle.rpki_cli.specs.Refusal.{IsRefusal};
 
 use crate::answer::Answer;
-use crate::store::{Reason, StoreError};
+use crate::store::StoreError;
 use rpki_der::{ContentFault, DecodeError};
 use std::alloc::{AllocError, Global};
 use std::fmt::Write;
 
-/// Whether the cause for which octets are refused, and the reason for which a file can't be read, is
-/// said, where there is one.
+/// Whether the cause for which octets are refused is said, where there is one.
 #[derive(Clone, Copy, Debug, PartialEq, Eq)]
 pub enum Causes {
     /// It is not: they are `malformed`.
@@ -22,22 +21,12 @@ pub enum Causes {
     Included,
 }
 
-/// The answer where a file can't be read, with the reason or without.
-pub fn unreadable<'a>(causes: Causes, file: &'a str, reason: Reason) -> Answer<'a>
-    ensures { said result ≡ unreadable causes file.now reason }
-{
-    match causes {
-        Causes::Omitted => Answer::CannotRead(file),
-        Causes::Included => Answer::CannotReadFor(file, reason),
-    }
-}
-
-/// The answer where a read of a file failed, with the reason or without.
-pub fn unread<'a>(causes: Causes, error: StoreError, file: &'a str) -> Answer<'a>
-    ensures { said result ≡ unread causes file.now error }
+/// The answer where a read of a file failed.
+pub fn unread<'a>(error: StoreError, file: &'a str) -> Answer<'a>
+    ensures { said result ≡ unread file.now error }
 {
     match error {
-        StoreError::Unreadable(reason) => unreadable(causes, file, reason),
+        StoreError::Unreadable(_) => Answer::CannotRead(file),
         StoreError::Memory => Answer::OutOfMemory,
     }
 }

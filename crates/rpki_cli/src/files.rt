@@ -7,7 +7,6 @@ ghost use Rattle.rpki_cli.specs.Words.{texts, chain_in, others_in, files_of_anch
 
 use crate::anchor_words::names_of_anchors;
 use crate::answer::Answer;
-use crate::causes::{Causes, unreadable};
 use crate::pairs::others_of;
 use crate::store::{Store, Unread, read_all};
 use bytes::Bytes;
@@ -32,14 +31,13 @@ pub trait Work: Drop {
 #[tactic(auto, using(crate::proofs::Asking::by_names))]
 pub fn answer_files<'a, W: Work, S: Store>(
     alloc: Global,
-    causes: Causes,
     work: W,
     first: &[&'a str],
     others: &[&'a str],
     store: &mut S,
 ) -> Answer<'a>
     requires { W.least work ≤ length first.now + length others.now }
-    ensures said { IsOfFiles causes (S.told store.old) (texts (first.now ++ others.now)) (W.says work)
+    ensures said { IsOfFiles (S.told store.old) (texts (first.now ++ others.now)) (W.says work)
         (S.reads store.old) (S.reads store.new) (said result) }
     ensures reads { AreReadAtMost (texts (first.now ++ others.now))
         (S.reads store.old) (S.reads store.new) }
@@ -47,7 +45,7 @@ pub fn answer_files<'a, W: Work, S: Store>(
 {
     match names_of(alloc, first, others) {
         Err(_) => Answer::OutOfMemory,
-        Ok(names) => answer_named(alloc, causes, work, &names, store),
+        Ok(names) => answer_named(alloc, work, &names, store),
     }
 }
 
@@ -56,14 +54,13 @@ pub fn answer_files<'a, W: Work, S: Store>(
 #[tactic(auto, using(crate::proofs::Asking::by_tail))]
 pub fn answer_tail<'a, W: Work, S: Store>(
     alloc: Global,
-    causes: Causes,
     work: W,
     first: &[&'a str],
     tail: &[&'a str],
     store: &mut S,
 ) -> Answer<'a>
     requires { W.least work ≤ length first.now + length (chain_in (texts tail.now)) }
-    ensures said { IsOfFiles causes (S.told store.old) (texts first.now ++ others_in (texts tail.now))
+    ensures said { IsOfFiles (S.told store.old) (texts first.now ++ others_in (texts tail.now))
         (W.says work) (S.reads store.old) (S.reads store.new) (said result) }
     ensures reads { AreReadAtMost (texts first.now ++ others_in (texts tail.now))
         (S.reads store.old) (S.reads store.new) }
@@ -71,7 +68,7 @@ pub fn answer_tail<'a, W: Work, S: Store>(
 {
     match others_of(alloc, tail) {
         Err(_) => Answer::OutOfMemory,
-        Ok(others) => answer_files(alloc, causes, work, first, &others, store),
+        Ok(others) => answer_files(alloc, work, first, &others, store),
     }
 }
 
@@ -79,14 +76,13 @@ pub fn answer_tail<'a, W: Work, S: Store>(
 #[tactic(auto, using(crate::proofs::Asking::by_tail))]
 pub fn answer_anchors<'a, W: Work, S: Store>(
     alloc: Global,
-    causes: Causes,
     work: W,
     first: &[&'a str],
     anchors: &[&'a str],
     store: &mut S,
 ) -> Answer<'a>
     requires { W.least work ≤ length first.now + length (files_of_anchors (texts anchors.now)) }
-    ensures said { IsOfFiles causes (S.told store.old)
+    ensures said { IsOfFiles (S.told store.old)
         (texts first.now ++ files_of_anchors (texts anchors.now))
         (W.says work) (S.reads store.old) (S.reads store.new) (said result) }
     ensures reads { AreReadAtMost (texts first.now ++ files_of_anchors (texts anchors.now))
@@ -95,7 +91,7 @@ pub fn answer_anchors<'a, W: Work, S: Store>(
 {
     match names_of_anchors(alloc, anchors) {
         Err(_) => Answer::OutOfMemory,
-        Ok(others) => answer_files(alloc, causes, work, first, &others, store),
+        Ok(others) => answer_files(alloc, work, first, &others, store),
     }
 }
 
@@ -117,19 +113,18 @@ fn names_of<'a>(
 #[tactic(auto, using(crate::proofs::Asking::by_reads))]
 fn answer_named<'a, W: Work, S: Store>(
     alloc: Global,
-    causes: Causes,
     work: W,
     names: &[&'a str],
     store: &mut S,
 ) -> Answer<'a>
     requires { W.least work ≤ length names.now }
-    ensures said { IsOfFiles causes (S.told store.old) (texts names.now) (W.says work)
+    ensures said { IsOfFiles (S.told store.old) (texts names.now) (W.says work)
         (S.reads store.old) (S.reads store.new) (said result) }
     ensures reads { AreReadAtMost (texts names.now) (S.reads store.old) (S.reads store.new) }
     ensures same { S.told store.new ≡ S.told store.old }
 {
     match read_all(alloc, names, store) {
-        Err(Unread::Unreadable(name, reason)) => unreadable(causes, name, reason),
+        Err(Unread::Unreadable(name, _)) => Answer::CannotRead(name),
         Err(Unread::Memory) => Answer::OutOfMemory,
         Ok(files) => work.answer(alloc, &files),
     }

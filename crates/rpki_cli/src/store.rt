@@ -1,8 +1,7 @@
 //! Where the program's files come from.
 
 ghost use Rattle.std.specs.Prelude.{◌≡◌, ◌∷◌, ◌++◌, ℕ, List, [], Option, None, Some, Result, IfOk};
-ghost use Rattle.rpki_cli.specs.Answer.{reason_text};
-ghost use Rattle.rpki_cli.specs.Store.{IsRead, AreRead, store_error_text, unread_text};
+ghost use Rattle.rpki_cli.specs.Store.{IsRead, AreRead, reason_text, store_error_text, unread_text};
 ghost use Rattle.rpki_cli.specs.Words.{texts};
 ghost use Rattle.rpki_cli.specs.declared.store.Reason.{Reason};
 

@@ -1,15 +1,14 @@
 //! What the program is asked.
 
 ghost use Rattle.std.specs.Prelude.{◌≡◌, ◌∷◌, ◌++◌, Bool, MatchOption, codes};
-ghost use Rattle.std.specs.List.{list_any};
 ghost use Rattle.rpki_basics.specs.Moment.{Moment, IsMoment};
-ghost use Rattle.rpki_cli.specs.Options.{provider_limit, manifest_rule, either_options};
+ghost use Rattle.rpki_cli.specs.Options.{provider_limit, manifest_rule};
 ghost use Rattle.rpki_cli.specs.Command.{objects_language};
 ghost use Rattle.rpki_cli.specs.Language.{IsAsked, AskForNothing};
 ghost use Rattle.rpki_cli.specs.Words.{texts, kind_word, word_if, word_registered, word_wide};
 ghost use Rattle.rpki_cli.specs.Words.{with_options, command_words, files_of, are_named};
 ghost use Rattle.rpki_cli.specs.Words.{moment_word, IsProper, AskForNoWalk, AskForNoRta};
-ghost use Rattle.rpki_cli.specs.Words.{AskForNothingElse, is_control, is_plain, are_plain};
+ghost use Rattle.rpki_cli.specs.Words.{AskForNothingElse};
 ghost use Rattle.rpki_cli.specs.declared.words.Kind.{Kind};
 ghost use Rattle.rpki_cli.specs.declared.words.Command.{Command};
 ghost use Rattle.rpki_cli.specs.declared.words.Order.{Order};
@@ -123,17 +122,6 @@ pub struct Options {
 }
 
 impl Options {
-    /// The options that are set here or there.
-    pub fn or(self, other: Options) -> Options
-        ensures { result ≡ either_options self other }
-    {
-        Options {
-            relaxed: self.relaxed || other.relaxed,
-            registered: self.registered || other.registered,
-            wide: self.wide || other.wide,
-        }
-    }
-
     /// How many providers a customer may have.
     pub fn provider_limit(self) -> ProviderLimit
         ensures { result ≡ provider_limit self }
@@ -178,7 +166,7 @@ pub fn parse<'a>(words: &'a [&'a str]) -> Option<Order<Command<'a>>>
 }
 
 /// Whether each file has a name.
-pub fn each_named(command: &Command<'_>) -> bool
+fn each_named(command: &Command<'_>) -> bool
     ensures { result ≡ are_named (files_of command.now) }
 {
     match command {
@@ -230,27 +218,6 @@ pub fn all_named(files: &[&str]) -> bool
         }
     }
     true
-}
-
-/// Whether each of these names is plain: has no control character.
-pub fn all_plain(names: &[&str]) -> bool
-    ensures { result ≡ are_plain (texts names.now) }
-{
-    names.iter().all(|name| is_plain(name))
-}
-
-/// Whether a name is plain: has no control character.
-fn is_plain(name: &str) -> bool
-    ensures { result ≡ is_plain name.now }
-{
-    !has_control(name.as_bytes())
-}
-
-/// Whether one of the octets is a control character.
-fn has_control(octets: &[u8]) -> bool
-    ensures { result ≡ list_any is_control octets.now }
-{
-    octets.iter().any(|octet| *octet < 0x20 || *octet == 0x7F)
 }
 
 /// The order of words that may begin with the first option.
@@ -319,7 +286,7 @@ fn parse_wide<'a>(
 
 /// The command of words without options.
 #[tactic(auto, using(crate::proofs::Orders::by_first_word))]
-pub fn parse_command<'a>(words: &'a [&'a str]) -> Option<Command<'a>>
+fn parse_command<'a>(words: &'a [&'a str]) -> Option<Command<'a>>
     ensures { MatchOption result
         ((c : Command) → texts words.now ≡ command_words c → IsProper c → ⊥)
         (λ c. (texts words.now ≡ command_words c) × IsProper c) }
@@ -409,7 +376,7 @@ fn parse_rta<'a>(words: &'a [&'a str]) -> Option<Command<'a>>
 
 /// The moment that a word names, if it names one.
 #[tactic(auto, unfolding(crate::specs::Words::moment_word))]
-pub fn moment_of(word: &str) -> Option<Time>
+fn moment_of(word: &str) -> Option<Time>
     ensures { MatchOption result ((m : Moment) → word.now ≡ moment_word m → IsMoment m → ⊥)
         (λ m. (word.now ≡ moment_word m) × IsMoment m) }
 {
@@ -417,7 +384,7 @@ pub fn moment_of(word: &str) -> Option<Time>
 }
 
 /// The kind of this name.
-pub fn kind_of(word: &str) -> Option<Kind>
+fn kind_of(word: &str) -> Option<Kind>
     ensures { MatchOption result ((k : Kind) → word.now ≡ kind_word k → ⊥)
         (λ k. word.now ≡ kind_word k) }
 {

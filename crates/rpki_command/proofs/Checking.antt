@@ -88,6 +88,20 @@ module _ {X : Type 0} (kind : ObjectKind X) (form : List ℕ → X → Type 0) (
 
 -- ---- files
 
+two : {T : Type 0} (xs : List T) (a b : T) → 2 ≤ length xs → a ≡ get_or xs 0 a
+    → b ≡ get_or xs 1 b → xs ≡ a ∷ b ∷ drop 2 xs
+two [] a b l e f = absurd (omega arith)
+two (x ∷ []) a b l e f = absurd (omega arith)
+two (x ∷ y ∷ rest) a b l e f = let p : a ≡ x = e in let q : b ≡ y = f in rw (p, q)
+
+-- what holds of the octets of the first two files and of the others holds of those of all
+pub of-two : (P : List (List ℕ) → Type 0) (files : List (List ℕ)) (object verdicts : List ℕ)
+    → 2 ≤ length files → object ≡ get_or files 0 object → verdicts ≡ get_or files 1 verdicts
+    → P (object ∷ verdicts ∷ take (length files - 2) (drop 2 files)) → P files
+of-two P files object verdicts l i j h =
+    subst P (sym (two files object verdicts l i j))
+    (subst (λ (tail : List (List ℕ)). P (object ∷ verdicts ∷ tail)) (take_rest files 2) h)
+
 three : {T : Type 0} (xs : List T) (a b c : T) → 3 ≤ length xs → a ≡ get_or xs 0 a
     → b ≡ get_or xs 1 b → c ≡ get_or xs 2 c → xs ≡ a ∷ b ∷ c ∷ drop 3 xs
 three [] a b c l e f g = absurd (omega arith)
@@ -98,7 +112,7 @@ three (x ∷ y ∷ z ∷ rest) a b c l e f g =
     let q : b ≡ y = f in
     let r : c ≡ z = g in rw (p, q, r)
 
--- what holds of the octets of the first three files and of the others holds of those of all
+-- the same of the first three files
 pub of-three : (P : List (List ℕ) → Type 0) (files : List (List ℕ))
     (object verdicts anchor : List ℕ) → 3 ≤ length files → object ≡ get_or files 0 object
     → verdicts ≡ get_or files 1 verdicts → anchor ≡ get_or files 2 anchor

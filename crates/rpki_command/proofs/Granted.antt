@@ -1,5 +1,5 @@
 -- What a yes and a no to an attestation mean, from what is said.
-use Rattle.std.proofs.Common.{◌≡◌, ℕ, List, ◌∷◌, ◌++◌, ◌∙◌, Option, Some, Result, Ok, Err, Vec}
+use Rattle.std.proofs.Common.{◌≡◌, ℕ, List, ◌∷◌, ◌++◌, ◌∙◌, Result, Ok, Err, Vec}
 use Rattle.std.proofs.Common.{Global}
 use Rattle.std.proofs.Common.{inl, inr, subst, ap, arith, map}
 use Rattle.sha2.specs.Sha256.{sha256}
@@ -12,32 +12,27 @@ use Rattle.rpki_certs.specs.Verify.{Verdict}
 use Rattle.rpki_faults.specs.declared.validation.ValidationError.{ValidationError}
 use Rattle.rpki_multi.specs.Attestation.{KeptWhole, Whole, RtaForm, whole_of}
 use Rattle.rpki_paths.specs.Anchor.{Supply}
-use Rattle.rpki_rsa.specs.Signature.{is_rsa_signature}
-use Rattle.rpki_rsa.specs.declared.rsa.Rsa.{Rsa}
 use Rattle.rpki_signed.specs.Attested.{IsExactRta}
 use Rattle.rpki_signed.specs.declared.check.CheckError.{CheckError}
 use Rattle.rpki_signed.specs.declared.check.CheckError.TheVariants.{Decode, Validation}
 use Rattle.rpki_rta.specs.Granted.{GrantsRta, IsDistinct, IsGrantedRta}
 use Rattle.rpki_verdicts.specs.Listed.{is_listed}
 use Rattle.rpki_cli.specs.Answer.{Run, Output, IsSaid, out_of_memory, bad_verdicts, shown}
-use Rattle.rpki_cli.specs.Command.{AreTold, ChecksFiles, IsRunOf, IsTaskDone, objects_language}
+use Rattle.rpki_cli.specs.Command.{AreTold, ChecksFiles, IsRunOf, objects_language}
 use Rattle.rpki_cli.specs.Shown.{IsLinesOf}
 use Rattle.rpki_cli.specs.Language.{IsAsked}
 use Rattle.rpki_cli.specs.Refusal.{IsRefusal}
 use Rattle.rpki_cli.specs.Store.{Told, Names}
 use Rattle.rpki_cli.specs.Words.{files_of_anchors}
-use Rattle.rpki_cli.specs.declared.causes.Causes.{Causes}
-use Rattle.rpki_cli.specs.declared.causes.Causes.TheVariants.{Omitted, Included}
-use Rattle.rpki_cli.specs.declared.verify.words.When.{When}
+use Rattle.rpki_cli.specs.declared.causes.Causes.TheVariants.{Omitted}
 use Rattle.rpki_cli.specs.declared.words.Options.{Options}
-use Rattle.rpki_cli.specs.Verify.Words.{verify_language, moment_at}
 use Rattle.rpki_show.specs.Texts.Rta.{attestation_text}
 use Rattle.rpki_show.proofs.Shown.{refusal-said}
 use Rattle.rpki_command.specs.Anchors.{given_in, MakeEach, AreMade}
 use Rattle.rpki_command.specs.Check.{yes_line, validation_refusal}
 use Rattle.rpki_command.specs.Command.{objects_program}
 use Rattle.rpki_command.specs.Rta.{supply_of, IsRtaSaid, AttestedUnder, anchor_refusal, IsSaidWith}
-use Rattle.rpki_command.specs.Rta.{RtaOf, granted_text}
+use Rattle.rpki_command.specs.Rta.{RtaOf}
 use Rattle.rpki_command.specs.Yes.{rta_order, IsRightRta, BeginsWithNoGranted, IsRightNoRta}
 use Rattle.rpki_command.specs.Yes.{HoldsByList, status_of}
 use Rattle.rpki_command.specs.declared.anchors.Anchor.{Anchor}
@@ -46,16 +41,13 @@ use Rattle.rpki_command.specs.declared.anchors.AnchorError.TheVariants as anchor
 use Rattle.rpki_command.proofs.Right.{other-status, whole-lines, refusal-is-none}
 use Rattle.rpki_command.proofs.Right.{fault-is-none, issuer-is-none, said-yes, said-no, one, two}
 use Rattle.rpki_command.proofs.Right.{three}
-use Rattle.rpki_command.specs.Verify.Check.{VerifiedRtaOf}
-use Rattle.rpki_command.specs.Verify.Command.{check_task, verify_program, PartySays}
-use Rattle.rpki_command.specs.Verify.Yes.{verify_rta}
 
 anchor-is-none : (fault : AnchorError) → status_of (anchor_refusal fault) ≡ 0 → ⊥
 anchor-is-none anchors.NoLocator = one
 anchor-is-none (anchors.NoIssuer fault) = issuer-is-none fault
 anchor-is-none anchors.Memory = three
 
-module _ {C : Type 0} (causes : Causes) (says : C → Verdict) (crypto : C) (now : Moment)
+module _ {C : Type 0} (says : C → Verdict) (crypto : C) (now : Moment)
     (words : List (List ℕ)) (object : List ℕ) (files : List (List ℕ)) (s : Output) where
   abbrev verdict : Verdict
   verdict = says crypto
@@ -63,7 +55,7 @@ module _ {C : Type 0} (causes : Causes) (says : C → Verdict) (crypto : C) (now
   -- what is said under these supplies
   abbrev Under : List Supply → Output → Type 0
   Under supplied said =
-      AttestedUnder causes (λ (_ : C). sha256) says crypto now supplied object said
+      AttestedUnder (λ (_ : C). sha256) says crypto now supplied object said
 
   module _ (run : Run) (h : IsSaid s run) (z : run.status ≡ 0) (zero : status_of s ≡ 0)
       (made : List Anchor) (each : MakeEach verdict now (given_in words files) made) where
@@ -74,7 +66,7 @@ module _ {C : Type 0} (causes : Causes) (says : C → Verdict) (crypto : C) (now
 
     yes-result : (result : Result KeptWhole CheckError)
         → IsExactRta sha256 verdict now (map supply_of made) object result
-        → IsRtaSaid causes granted_text result s → IsRightRta verdict now words object files run
+        → IsRtaSaid result s → IsRightRta verdict now words object files run
     yes-result (Ok k) b is =
         let same : whole_of k ≡ b.object = b.holds.1 in
         let lines = subst
@@ -90,7 +82,7 @@ module _ {C : Type 0} (causes : Causes) (says : C → Verdict) (crypto : C) (now
           printed = whole-lines (yes_line ++ attestation_text b.object.content) run lines z;
           silent = lines.err;
         }
-    yes-result (Err (Decode fault)) b is = absurd (refusal-is-none causes fault s is zero)
+    yes-result (Err (Decode fault)) b is = absurd (refusal-is-none fault s is zero)
     yes-result (Err (Validation fault)) b (inl e) =
         absurd (other-status s out_of_memory 0 zero e three)
     yes-result (Err (Validation fault)) b (inr e) =
@@ -114,10 +106,10 @@ module _ {C : Type 0} (causes : Causes) (says : C → Verdict) (crypto : C) (now
     no-memory : s ≡ out_of_memory → ⊥
     no-memory e = other-status s out_of_memory 1 first e (λ (n : 3 ≡ 1). omega (arith, n))
 
-    no-front : (fault : DecodeError) → IsRefusal causes fault s
+    no-front : (fault : DecodeError) → IsRefusal Omitted fault s
         → Refuses fault (HasNoFront (RtaForm Der) object) → HasNoFront (RtaForm Der) object
     no-front fault e none =
-        elim (refusal-said causes fault s (HasNoFront (RtaForm Der) object) e none) [
+        elim (refusal-said Omitted fault s (HasNoFront (RtaForm Der) object) e none) [
           | inl m ↦ absurd (no-memory m)
           | inr p ↦ p.1
         ]
@@ -129,7 +121,7 @@ module _ {C : Type 0} (causes : Causes) (says : C → Verdict) (crypto : C) (now
 
     no-result : (supplied : List Supply) (result : Result KeptWhole CheckError)
         → IsExactRta sha256 verdict now supplied object result
-        → IsRtaSaid causes granted_text result s
+        → IsRtaSaid result s
         → BeginsWithNoGranted verdict now supplied object
     no-result supplied (Ok k) b (inl e) = absurd (no-memory e)
     no-result supplied (Ok k) b (inr e) = absurd
@@ -173,7 +165,7 @@ module _ (told : Told) (words : List (List ℕ)) (old new : Names) (run : Run) (
     (is : IsRunOf objects_program told words old new run)
     (asked : IsAsked objects_language words (rta_order options now file list named))
     (tells : AreTold told (file ∷ list ∷ files_of_anchors named) (object ∷ text ∷ octets)) where
-  done : ChecksFiles Omitted told (file ∷ list ∷ files_of_anchors named) (RtaOf now named) old new run
+  done : ChecksFiles told (file ∷ list ∷ files_of_anchors named) (RtaOf now named) old new run
   done = is.done (rta_order options now file list named) asked
 
   yes-of : (s : Output) → IsSaid s run → run.status ≡ 0 → status_of s ≡ 0
@@ -183,7 +175,7 @@ module _ (told : Told) (words : List (List ℕ)) (old new : Names) (run : Run) (
   yes-of s h z zero (inr c) = record {
     lines = c.0;
     listed = c.1;
-    holds = yes-made Omitted is_listed c.0 now named object octets s run h z zero c.2.0 c.2.1
+    holds = yes-made is_listed c.0 now named object octets s run h z zero c.2.0 c.2.1
         c.2.2;
   }
 
@@ -194,48 +186,19 @@ module _ (told : Told) (words : List (List ℕ)) (old new : Names) (run : Run) (
   no-of s first (inr c) = record {
     lines = c.0;
     listed = c.1;
-    holds = no-made Omitted is_listed c.0 now named object octets s first c.2.0 c.2.1 c.2.2;
+    holds = no-made is_listed c.0 now named object octets s first c.2.0 c.2.1 c.2.2;
   }
 
   pub right-rta : run.status ≡ 0
       → HoldsByList (λ verdict. IsRightRta verdict now named object octets run) text
   right-rta z =
-      let c = said-yes Omitted told (file ∷ list ∷ files_of_anchors named) (object ∷ text ∷ octets)
+      let c = said-yes told (file ∷ list ∷ files_of_anchors named) (object ∷ text ∷ octets)
       (RtaOf now named) old new run done tells z in
       yes-of c.0 c.2 z c.3 c.1
 
   pub right-no-rta : run.status ≡ 1
       → HoldsByList (λ verdict. IsRightNoRta verdict now named object octets) text
   right-no-rta z =
-      let c = said-no Omitted told (file ∷ list ∷ files_of_anchors named) (object ∷ text ∷ octets)
+      let c = said-no told (file ∷ list ∷ files_of_anchors named) (object ∷ text ∷ octets)
       (RtaOf now named) old new run done tells z in
       no-of c.0 c.3 c.1
-
--- ---- by signatures
-
-module _ (told : Told) (clock : Option Moment) (party : PartySays) (words : List (List ℕ))
-    (old new : Names) (run : Run)
-    (options : Options) (moment : When) (now : Moment) (file : List ℕ) (named : List (List ℕ))
-    (object : List ℕ) (octets : List (List ℕ))
-    (is : IsRunOf (verify_program clock party) told words old new run)
-    (asked : IsAsked verify_language words (verify_rta options moment file named))
-    (moment-is : moment_at clock moment ≡ Some now)
-    (tells : AreTold told (file ∷ files_of_anchors named) (object ∷ octets)) where
-  verified : ChecksFiles Included told (file ∷ files_of_anchors named) (VerifiedRtaOf named now) old new run
-  verified = subst (λ (m : Option Moment). IsTaskDone told
-      (check_task (file ∷ files_of_anchors named) (VerifiedRtaOf named) m) old new run)
-      moment-is (is.done (verify_rta options moment file named) asked)
-
-  pub verified-rta : run.status ≡ 0 → IsRightRta is_rsa_signature now named object octets run
-  verified-rta z =
-      let c = said-yes Included told (file ∷ files_of_anchors named) (object ∷ octets)
-      (VerifiedRtaOf named now) old new run verified tells z in
-      yes-made Included (λ (_ : Rsa). is_rsa_signature) (record {}) now named object octets c.0 run
-      c.2 z c.3 c.1.0 c.1.1 c.1.2
-
-  pub verified-no-rta : run.status ≡ 1 → IsRightNoRta is_rsa_signature now named object octets
-  verified-no-rta z =
-      let c = said-no Included told (file ∷ files_of_anchors named) (object ∷ octets)
-      (VerifiedRtaOf named now) old new run verified tells z in
-      no-made Included (λ (_ : Rsa). is_rsa_signature) (record {}) now named object octets c.0 c.3
-      c.1.0 c.1.1 c.1.2

@@ -1,11 +1,12 @@
+pub mod Anchored
 pub mod Checking
 pub mod Granted
 pub mod Holding
+pub mod Listed
 pub mod Located
 pub mod Making
 pub mod Right
 pub mod Same
-pub mod Settled
-pub mod Untold
-pub mod Verified
+pub mod Sufficing
+pub mod Supplying
 pub mod Walked

@@ -4,15 +4,13 @@ use Rattle.std.proofs.Common.{Bool, true, false, Ok, Err, refl, sym, ap, subst, 
 use Rattle.std.proofs.Common.{length, get_or, take, drop, append_assoc, suc}
 use Rattle.std.proofs.Math.Seq.{drop-cons}
 use Rattle.std.proofs.lemmas.List.{append-nil, length-append, length-drop}
-use Rattle.std.proofs.lemmas.List.{drop_all, length-take-le, map-append}
+use Rattle.std.proofs.lemmas.List.{drop_all, length-take-le}
 use Rattle.std.proofs.lemmas.List.Splits.{length-slice_split}
 use Rattle.std.specs.List.{slice_split}
 use Rattle.std.specs.Prelude.{if◌then◌else◌}
 use Rattle.rpki_basics.specs.Moment.{Moment}
 use Rattle.rpki_certs.specs.Verify.{Verdict}
 use Rattle.rpki_command.specs.Anchors.{Given, given_in, Makes, MakesOf, MakeEach, AreMade}
-use Rattle.rpki_command.specs.Anchors.{chains_in}
-use Rattle.rpki_verdicts.specs.Attested.{octets_of_chains}
 use Rattle.rpki_cli.specs.Words.{texts, is_locator, is_colon, path_in, files_of_anchor}
 use Rattle.rpki_cli.specs.Words.{files_of_anchors}
 use Rattle.rpki_command.specs.declared.anchors.Anchor.{Anchor}
@@ -200,80 +198,3 @@ module _ (verdict : Verdict) (now : Moment) where
     all-made place left anchors is l =
         subst (λ (g : List Given). MakeEach verdict now g anchors)
         (sym (all-cut words all place left is.done is.is_cut l)) is.each
-
--- ---- their chains
-
-chains-more : (done : List Given) (g : Given)
-    → chains_in (done ++ g ∷ []) ≡ chains_in done ++ chains_in (g ∷ [])
-chains-more [] g = refl
-chains-more (d ∷ done) g =
-    ap (λ (cs : List (List (List ℕ))). (if d.locates then [] else d.files ∷ []) ++ cs)
-    (chains-more done g)
-    ∙ sym (append_assoc (if d.locates then [] else d.files ∷ []) (chains_in done)
-    (chains_in (g ∷ [])))
-
-no-chain : (b : Bool) (files : List (List ℕ)) → b ≡ true
-    → (if b then [] else files ∷ []) ++ [] ≡ []
-no-chain true files e = refl
-no-chain false files e = absurd cc
-
-its-chain : (b : Bool) (files : List (List ℕ)) → b ≡ false
-    → (if b then [] else files ∷ []) ++ [] ≡ files ∷ []
-its-chain true files e = absurd cc
-its-chain false files e = refl
-
--- These are the chains of the words up to a place, and of the others these files are left.
-pub record AreChainsTo (words : List (Bor (List ℕ))) (all : List (List ℕ)) (place : ℕ)
-    (left : List (List ℕ)) (chains : List (Bor (List (List ℕ)))) : Type 0 where
-  pub done : List Given
-  pub chained : octets_of_chains chains ≡ chains_in done
-  pub is_cut : IsCutAt words all place left done
-
-module _ (words : List (Bor (List ℕ))) (all : List (List ℕ)) where
-  pub none-chained : length (files_of_anchors (texts words)) ≤ length all
-      → AreChainsTo words all 0 all []
-  none-chained l = record { done = []; chained = refl; is_cut = none-cut words all l }
-
-  module _ (place : ℕ) (left own others : List (List ℕ))
-      (chains : List (Bor (List (List ℕ)))) (d : Bor (List ℕ)) (n : ℕ)
-      (is : AreChainsTo words all place left chains) (there : place < length words)
-      (count : n ≡ length (files_of_anchor (get_or words place d).now))
-      (front : own ≡ take n left) (back : others ≡ drop n left) where
-    abbrev said : List ℕ
-    said = (get_or words place d).now
-
-    more : IsCutAt words all (place + 1) others (is.done ++ given_of said own ∷ [])
-    more = cut-more words all place left own others is.done d n is.is_cut there count front back
-
-    one-more : (cs : List (List (List ℕ))) → chains_in (given_of said own ∷ []) ≡ cs
-        → octets_of_chains chains ++ cs ≡ chains_in (is.done ++ given_of said own ∷ [])
-    one-more cs e =
-        ap (λ (xs : List (List (List ℕ))). xs ++ cs) is.chained
-        ∙ sym (chains-more is.done (given_of said own)
-        ∙ ap (λ (xs : List (List (List ℕ))). chains_in is.done ++ xs) e)
-
-    -- a locator is passed over
-    pub one-located : is_locator said ≡ true → AreChainsTo words all (place + 1) others chains
-    one-located e = record {
-      done = is.done ++ given_of said own ∷ [];
-      chained = sym (append-nil (octets_of_chains chains))
-          ∙ one-more [] (no-chain (is_locator said) own e);
-      is_cut = more;
-    }
-
-    pub one-chained : (x : Bor (List (List ℕ))) → x.now ≡ own → is_locator said ≡ false
-        → AreChainsTo words all (place + 1) others (chains ++ x ∷ [])
-    one-chained x same e = record {
-      done = is.done ++ given_of said own ∷ [];
-      chained = map-append (λ (c : Bor (List (List ℕ))). c.now) chains (x ∷ [])
-          ∙ ap (λ (os : List (List ℕ)). octets_of_chains chains ++ os ∷ []) same
-          ∙ one-more (own ∷ []) (its-chain (is_locator said) own e);
-      is_cut = more;
-    }
-
-  pub all-chained : (place : ℕ) (left : List (List ℕ))
-      (chains : List (Bor (List (List ℕ)))) → AreChainsTo words all place left chains
-      → (place < length words → ⊥)
-      → octets_of_chains chains ≡ chains_in (given_in (texts words) all)
-  all-chained place left chains is l =
-      is.chained ∙ ap chains_in (sym (all-cut words all place left is.done is.is_cut l))

@@ -5,7 +5,6 @@ use Rattle.std.specs.Prelude.{◌⊎◌}
 use Rattle.sha2.specs.Sha256.{sha256}
 use Rattle.rpki_der.specs.Grammar.{HasNoFront}
 use Rattle.rpki_der.specs.Read.Reads.{Refuses}
-use Rattle.rpki_der.specs.Text.Error.{fault_text}
 use Rattle.rpki_der.specs.declared.error.DecodeError.{DecodeError}
 use Rattle.rpki_der.specs.declared.error.DecodeError.TheVariants as decoding
 use Rattle.rpki_der.specs.declared.mode.Mode.{Mode}
@@ -26,20 +25,17 @@ use Rattle.rpki_sigobj.specs.Signed.Good.{IsGood, IsNotGood}
 use Rattle.rpki_sigobj.specs.Signed.Kind as signed
 use Rattle.rpki_sigobj.specs.Signed.{Whole, ObjectForm, cert_in}
 use Rattle.rpki_verdicts.specs.Listed.{is_listed}
-use Rattle.rpki_cli.specs.Answer.{Run, Output, Printed, Complained, Reported, IsSaid, IsWhole}
-use Rattle.rpki_cli.specs.Answer.{out_of_memory}
-use Rattle.rpki_cli.specs.Answer.{bad_verdicts, malformed, malformed_by, shown}
+use Rattle.rpki_cli.specs.Answer.{Run, Output, Printed, Complained, IsSaid, IsWhole}
+use Rattle.rpki_cli.specs.Answer.{out_of_memory, bad_verdicts, malformed, shown}
 use Rattle.rpki_cli.specs.Command.{AreTold, ChecksFiles, IsRunOf, objects_language}
 use Rattle.rpki_cli.specs.Shown.{IsLinesOf}
 use Rattle.rpki_cli.specs.Language.{IsAsked}
 use Rattle.rpki_cli.specs.Refusal.{IsRefusal}
 use Rattle.rpki_cli.specs.Store.{Told, Names}
-use Rattle.rpki_cli.specs.declared.causes.Causes.{Causes}
-use Rattle.rpki_cli.specs.declared.causes.Causes.TheVariants.{Omitted, Included}
+use Rattle.rpki_cli.specs.declared.causes.Causes.TheVariants.{Omitted}
 use Rattle.rpki_cli.specs.declared.words.Kind.{Kind}
 use Rattle.rpki_cli.specs.declared.words.Options.{Options}
-use Rattle.rpki_json.specs.Members.{Member}
-use Rattle.rpki_show.specs.Kinds.{OfKind, RowOf}
+use Rattle.rpki_show.specs.Kinds.{OfKind}
 use Rattle.rpki_show.specs.Options.{read_mode}
 use Rattle.rpki_show.proofs.Shown.{refusal-said}
 use Rattle.rpki_command.specs.Check.{yes_line, passes, issuer_refusal, validation_refusal}
@@ -68,12 +64,6 @@ status-said (Complained text status) run n h e failed = elim h.err [
   | inl w ↦ sym w.status_is ∙ e
   | inr c ↦ absurd (failed (sym e ∙ c.status_is))
 ]
-status-said (Reported out err status) run n (inl both) e failed = elim both.err [
-  | inl w ↦ sym w.status_is ∙ e
-  | inr c ↦ absurd (failed (sym e ∙ c.status_is))
-]
-status-said (Reported out err status) run n (inr cut) e failed =
-    absurd (failed (sym e ∙ cut.out.status_is))
 
 -- what has this status is not said with another one
 pub other-status : (s is : Output) (n : ℕ) → status_of s ≡ n → s ≡ is → (status_of is ≡ n → ⊥) → ⊥
@@ -88,18 +78,11 @@ whole-lines lines run h z = elim h.out [
 ]
 
 -- a refusal is no yes
-pub refusal-is-none : (causes : Causes) (fault : DecodeError) (s : Output)
-    → IsRefusal causes fault s
+pub refusal-is-none : (fault : DecodeError) (s : Output) → IsRefusal Omitted fault s
     → status_of s ≡ 0 → ⊥
-refusal-is-none Omitted decoding.Memory s e z = other-status s out_of_memory 0 z e three
-refusal-is-none Included decoding.Memory s e z = other-status s out_of_memory 0 z e three
-refusal-is-none Omitted decoding.Malformed s e z = other-status s malformed 0 z e one
-refusal-is-none Included decoding.Malformed s e z = other-status s malformed 0 z e one
-refusal-is-none Omitted (decoding.Content fault) s e z = other-status s malformed 0 z e one
-refusal-is-none Included (decoding.Content fault) s (inl e) z =
-    other-status s out_of_memory 0 z e three
-refusal-is-none Included (decoding.Content fault) s (inr e) z =
-    other-status s (malformed_by (fault_text fault)) 0 z e one
+refusal-is-none decoding.Memory s e z = other-status s out_of_memory 0 z e three
+refusal-is-none decoding.Malformed s e z = other-status s malformed 0 z e one
+refusal-is-none (decoding.Content fault) s e z = other-status s malformed 0 z e one
 
 pub fault-is-none : (fault : ValidationError) → status_of (validation_refusal fault) ≡ 0 → ⊥
 fault-is-none (validation.Inspection fault) = one
@@ -119,8 +102,7 @@ no-pass cert fault e = absurd cc
 
 -- ---- one object
 
-module _ {X : Type 0} (causes : Causes) (kind : signed.ObjectKind X) (form : List ℕ → X → Type 0)
-    (text : X → List ℕ)
+module _ {X : Type 0} (kind : signed.ObjectKind X) (form : List ℕ → X → Type 0) (text : X → List ℕ)
     (mode : Mode) (digest : Digester) (verdict : Verdict) (issuer : Validated) (now : Moment)
     (octets : List ℕ) (s : Output) where
   module _ (run : Run) (h : IsSaid s run) (z : run.status ≡ 0) (zero : status_of s ≡ 0) where
@@ -131,7 +113,7 @@ module _ {X : Type 0} (causes : Causes) (kind : signed.ObjectKind X) (form : Lis
 
     yes-result : (result : Result (Validated × X) CheckError)
         → IsExact kind form mode digest verdict issuer now passes octets result
-        → IsCheckSaid causes text result s
+        → IsCheckSaid text result s
         → PrintsYes kind form text mode digest verdict issuer now octets run
     yes-result (Ok a) b is =
         let holds = b.holds in
@@ -146,13 +128,13 @@ module _ {X : Type 0} (causes : Causes) (kind : signed.ObjectKind X) (form : Lis
           printed = whole-lines (yes_line ++ text b.object.content) run lines z;
           silent = lines.err;
         }
-    yes-result (Err (Decode fault)) b is = absurd (refusal-is-none causes fault s is zero)
+    yes-result (Err (Decode fault)) b is = absurd (refusal-is-none fault s is zero)
     yes-result (Err (Validation fault)) b (inl e) =
         absurd (other-status s out_of_memory 0 zero e three)
     yes-result (Err (Validation fault)) b (inr e) =
         absurd (other-status s (validation_refusal fault) 0 zero e (fault-is-none fault))
 
-    pub yes-as : IsCheckedAs causes kind form text mode digest verdict issuer now octets s
+    pub yes-as : IsCheckedAs kind form text mode digest verdict issuer now octets s
         → PrintsYes kind form text mode digest verdict issuer now octets run
     yes-as (inl e) = absurd (other-status s out_of_memory 0 zero e three)
     yes-as (inr c) = yes-result c.result c.exact c.said
@@ -161,11 +143,11 @@ module _ {X : Type 0} (causes : Causes) (kind : signed.ObjectKind X) (form : Lis
     no-memory : s ≡ out_of_memory → ⊥
     no-memory e = other-status s out_of_memory 1 first e (λ (n : 3 ≡ 1). omega (arith, n))
 
-    no-front : (fault : DecodeError) → IsRefusal causes fault s
+    no-front : (fault : DecodeError) → IsRefusal Omitted fault s
         → Refuses fault (HasNoFront (ObjectForm kind.type form mode) octets)
         → HasNoFront (ObjectForm kind.type form mode) octets
     no-front fault e none = elim
-        (refusal-said causes fault s (HasNoFront (ObjectForm kind.type form mode) octets) e none) [
+        (refusal-said Omitted fault s (HasNoFront (ObjectForm kind.type form mode) octets) e none) [
           | inl m ↦ absurd (no-memory m)
           | inr p ↦ p.1
         ]
@@ -179,7 +161,7 @@ module _ {X : Type 0} (causes : Causes) (kind : signed.ObjectKind X) (form : Lis
 
     no-result : (result : Result (Validated × X) CheckError)
         → IsExact kind form mode digest verdict issuer now passes octets result
-        → IsCheckSaid causes text result s
+        → IsCheckSaid text result s
         → BeginsWithNoGood kind form mode digest verdict issuer now octets
     no-result (Ok a) b (inl e) = absurd (no-memory e)
     no-result (Ok a) b (inr e) = absurd
@@ -193,7 +175,7 @@ module _ {X : Type 0} (causes : Causes) (kind : signed.ObjectKind X) (form : Lis
       holds = not-good b.object fault e b.holds;
     })
 
-    pub no-as : IsCheckedAs causes kind form text mode digest verdict issuer now octets s
+    pub no-as : IsCheckedAs kind form text mode digest verdict issuer now octets s
         → BeginsWithNoGood kind form mode digest verdict issuer now octets
     no-as (inl e) = absurd (no-memory e)
     no-as (inr c) = no-result c.result c.exact c.said
@@ -208,28 +190,19 @@ pub of-kind : (options : Options) (kind : Kind)
     → OfKind options kind P → OfKind options kind Q
 of-kind options kind P Q more h = search rules
 
--- and so does what follows from each row of their table
-pub of-row : (options : Options) (kind : Kind)
-    (P Q : (X : Type 0) → signed.ObjectKind X → (List ℕ → X → Type 0) → (X → List ℕ)
-    → (X → List Member) → Type 0)
-    → ((X : Type 0) (asked : signed.ObjectKind X) (form : List ℕ → X → Type 0) (text : X → List ℕ)
-    (members : X → List Member) → P X asked form text members → Q X asked form text members)
-    → RowOf options kind P → RowOf options kind Q
-of-row options kind P Q more h = search rules
-
-module _ (s : Output) (causes : Causes) (options : Options) (kind : Kind) (verdict : Verdict)
+module _ (s : Output) (options : Options) (kind : Kind) (verdict : Verdict)
     (issuer : Validated) (now : Moment) (octets : List ℕ)
-    (c : CheckedUnder causes options kind sha256 verdict issuer now octets s) where
+    (c : CheckedUnder options kind sha256 verdict issuer now octets s) where
   pub yes-under : (run : Run) → IsSaid s run → run.status ≡ 0 → status_of s ≡ 0
       → OfKind options kind (λ X asked form text. PrintsYes asked form text (read_mode options)
       sha256 verdict issuer now octets run)
   yes-under run h z zero = of-kind options kind
-      (λ X asked form text. IsCheckedAs causes asked form text (read_mode options) sha256 verdict
+      (λ X asked form text. IsCheckedAs asked form text (read_mode options) sha256 verdict
       issuer
       now octets s)
       (λ X asked form text. PrintsYes asked form text (read_mode options) sha256 verdict issuer now
       octets run)
-      (λ X asked form text is. yes-as causes asked form text (read_mode options) sha256 verdict
+      (λ X asked form text is. yes-as asked form text (read_mode options) sha256 verdict
       issuer now
       octets s run h z zero is) c
 
@@ -237,29 +210,29 @@ module _ (s : Output) (causes : Causes) (options : Options) (kind : Kind) (verdi
       → OfKind options kind (λ X asked form text. BeginsWithNoGood asked form (read_mode options)
       sha256 verdict issuer now octets)
   no-under first = of-kind options kind
-      (λ X asked form text. IsCheckedAs causes asked form text (read_mode options) sha256 verdict
+      (λ X asked form text. IsCheckedAs asked form text (read_mode options) sha256 verdict
       issuer
       now octets s)
       (λ X asked form text. BeginsWithNoGood asked form (read_mode options) sha256 verdict issuer
       now octets)
-      (λ X asked form text is. no-as causes asked form text (read_mode options) sha256 verdict
+      (λ X asked form text is. no-as asked form text (read_mode options) sha256 verdict
       issuer now
       octets s first is) c
 
 -- ---- by its files
 
-module _ (s : Output) (causes : Causes) (options : Options) (kind : Kind) (verdict : Verdict)
+module _ (s : Output) (options : Options) (kind : Kind) (verdict : Verdict)
     (now : Moment) (files : FilesOfCheck) where
   pub yes-made : (run : Run) → IsSaid s run → run.status ≡ 0 → status_of s ≡ 0
       → (issuer : Result Validated IssuerError)
       → MakesIssuer verdict now files.anchor files.chain issuer
       → IsSaidUnder (λ v said.
-      CheckedUnder causes options kind sha256 verdict v now files.object said) issuer s
+      CheckedUnder options kind sha256 verdict v now files.object said) issuer s
       → IsRightYes options kind verdict now files run
   yes-made run h z zero (Ok issuer) made is = record {
     issuer = issuer;
     made = made;
-    yes = yes-under s causes options kind verdict issuer now files.object is run h z zero;
+    yes = yes-under s options kind verdict issuer now files.object is run h z zero;
   }
   yes-made run h z zero (Err fault) made (inl e) =
       absurd (other-status s out_of_memory 0 zero e three)
@@ -269,12 +242,12 @@ module _ (s : Output) (causes : Causes) (options : Options) (kind : Kind) (verdi
   pub no-made : status_of s ≡ 1 → (issuer : Result Validated IssuerError)
       → MakesIssuer verdict now files.anchor files.chain issuer
       → IsSaidUnder (λ v said.
-      CheckedUnder causes options kind sha256 verdict v now files.object said) issuer s
+      CheckedUnder options kind sha256 verdict v now files.object said) issuer s
       → IsRightNo options kind verdict now files
   no-made first (Ok issuer) made is = inr (record {
     issuer = issuer;
     made = made;
-    no = no-under s causes options kind verdict issuer now files.object is first;
+    no = no-under s options kind verdict issuer now files.object is first;
   })
   no-made first (Err fault) made (inl e) =
       absurd (other-status s out_of_memory 1 first e (λ (n : 3 ≡ 1). omega (arith, n)))
@@ -294,7 +267,7 @@ module _ (s : Output) (options : Options) (kind : Kind) (now : Moment) (files : 
   yes-of run h z zero (inr c) = record {
     lines = c.0;
     listed = c.1;
-    holds = yes-made s Omitted options kind (is_listed c.0) now files run h z zero c.2.0 c.2.1
+    holds = yes-made s options kind (is_listed c.0) now files run h z zero c.2.0 c.2.1
         c.2.2;
   }
 
@@ -305,14 +278,14 @@ module _ (s : Output) (options : Options) (kind : Kind) (now : Moment) (files : 
   no-of first (inr c) = record {
     lines = c.0;
     listed = c.1;
-    holds = no-made s Omitted options kind (is_listed c.0) now files first c.2.0 c.2.1 c.2.2;
+    holds = no-made s options kind (is_listed c.0) now files first c.2.0 c.2.1 c.2.2;
   }
 
 -- ---- by the run
 
-module _ (causes : Causes) (told : Told) (names octets : Names)
+module _ (told : Told) (names octets : Names)
     (P : List (List ℕ) → Output → Type 0) (old new : Names) (run : Run)
-    (done : ChecksFiles causes told names P old new run) (tells : AreTold told names octets) where
+    (done : ChecksFiles told names P old new run) (tells : AreTold told names octets) where
   -- what is said by a run that ends with this status, which is not that of a failure
   pub said-with : (n : ℕ) → run.status ≡ n → (n ≡ 2 → ⊥) → (3 ≡ n → ⊥)
       → (s : Output) × P octets s × IsSaid s run × (status_of s ≡ n)
@@ -332,19 +305,19 @@ module _ (told : Told) (words : List (List ℕ)) (old new : Names) (run : Run) (
     (is : IsRunOf objects_program told words old new run)
     (asked : IsAsked objects_language words (check_order options kind now list names))
     (tells : AreTold told (in_order_with list names) (in_order_with text files)) where
-  done : ChecksFiles Omitted told (in_order_with list names) (CheckOf options kind now) old new run
+  done : ChecksFiles told (in_order_with list names) (CheckOf options kind now) old new run
   done = is.done (check_order options kind now list names) asked
 
   pub right-yes : run.status ≡ 0
       → HoldsByList (λ verdict. IsRightYes options kind verdict now files run) text
   right-yes z =
-      let c = said-yes Omitted told (in_order_with list names) (in_order_with text files)
+      let c = said-yes told (in_order_with list names) (in_order_with text files)
       (CheckOf options kind now) old new run done tells z in
       yes-of c.0 options kind now files text run c.2 z c.3 c.1
 
   pub right-no : run.status ≡ 1
       → HoldsByList (λ verdict. IsRightNo options kind verdict now files) text
   right-no z =
-      let c = said-no Omitted told (in_order_with list names) (in_order_with text files)
+      let c = said-no told (in_order_with list names) (in_order_with text files)
       (CheckOf options kind now) old new run done tells z in
       no-of c.0 options kind now files text c.3 c.1

@@ -114,10 +114,6 @@ module _ (issuer other : Blocks) (same : SameSet (λ (n : ℕ). n) issuer other)
 
 -- ---- issuers
 
-pub certificates-same : (v w : Validated) → IsSameIssuer v w
-    → v.cert.certificate ≡ w.cert.certificate
-certificates-same v w h = ap (λ (k : KeptCertificate). k.certificate) h.cert
-
 -- a trust anchor has the numbers that it claims
 anchors-same : (k : KeptCertificate) (v w : Validated) → IsAnchorOf k v → IsAnchorOf k w
     → IsSameIssuer v w

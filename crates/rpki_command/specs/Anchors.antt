@@ -1,7 +1,6 @@
 -- What the files of anchors make: locators, and CAs that were validated.
 use Rattle.std.specs.Prelude.{◌≡◌, ◌⊎◌, ℕ, List, [], ◌∷◌, ◌++◌, Bool, true, false, length, take}
-use Rattle.std.specs.Prelude.{drop}
-use Rattle.std.specs.Prelude.{Result, Ok, Err, Vec, if◌then◌else◌}
+use Rattle.std.specs.Prelude.{drop, Result, Ok, Err, Vec}
 use Rattle.std.specs.declared.alloc.Global.{Global}
 use Rattle.rpki_basics.specs.Moment.{Moment}
 use Rattle.rpki_certs.specs.Issuer.{MakesIssuer}
@@ -28,11 +27,6 @@ given_in (word ∷ words) octets =
       locates = is_locator word;
       files = take (length (files_of_anchor word)) octets;
     } ∷ given_in words (drop (length (files_of_anchor word)) octets)
-
--- the octets of the files of each chain among them
-abbrev pub chains_in : List Given → List (List (List ℕ))
-chains_in [] = []
-chains_in (g ∷ given) = (if g.locates then [] else g.files ∷ []) ++ chains_in given
 
 -- What the file of a locator makes, unless memory runs out: what it says (RFC 8630, section 2.2).
 abbrev pub IsLocated : List ℕ → Result Anchor AnchorError → Type 0

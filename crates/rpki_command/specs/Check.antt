@@ -23,11 +23,9 @@ use Rattle.rpki_sigobj.specs.Signed.Kind as signed
 use Rattle.rpki_verdicts.specs.Listed.{is_listed}
 use Rattle.rpki_verdicts.specs.Verdicts.{AreVerdicts}
 use Rattle.rpki_cli.specs.Answer.{Output, out_of_memory, bad_verdicts, refused, issuer_refused}
-use Rattle.rpki_cli.specs.Answer.{issuer_malformed, said}
+use Rattle.rpki_cli.specs.Answer.{issuer_malformed}
 use Rattle.rpki_cli.specs.Shown.{IsLinesOf}
 use Rattle.rpki_cli.specs.Refusal.{IsRefusal}
-use Rattle.rpki_cli.specs.declared.answer.Answer.{Answer}
-use Rattle.rpki_cli.specs.declared.causes.Causes.{Causes}
 use Rattle.rpki_cli.specs.declared.causes.Causes.TheVariants.{Omitted}
 use Rattle.rpki_cli.specs.declared.words.Kind.{Kind}
 use Rattle.rpki_cli.specs.declared.words.Options.{Options}
@@ -67,44 +65,37 @@ IsIssuerRefused fault s = (s ≡ out_of_memory) ⊎ (s ≡ issuer_refusal fault)
 abbrev pub yes_line : List ℕ
 yes_line = codes "yes\n"
 
--- What this comes to is said, where P says what is said for each text that there may be: of a value
--- its text, whichever is wanted, and of an answer what it says.
-abbrev pub Settles : {X : Type 0} → ((X → List ℕ) → Output → Type 0) → Result X Answer → Type 0
-Settles {X} P (Ok x) = (text : X → List ℕ) (s : Output) → IsLinesOf (text x) s → P text s
-Settles {X} P (Err answer) = (text : X → List ℕ) → P text (said answer)
-
 -- What is said of what a check answers: yes and the lines of the content, or why not.
-abbrev pub IsCheckSaid : {X : Type 0} → Causes → (X → List ℕ) → Result (Validated × X) CheckError
-    → Output → Type 0
-IsCheckSaid causes text (Ok a) s = IsLinesOf (yes_line ++ text a.1) s
-IsCheckSaid causes text (Err (Decode fault)) s = IsRefusal causes fault s
-IsCheckSaid causes text (Err (Validation fault)) s = IsRefused fault s
+abbrev pub IsCheckSaid : {X : Type 0} → (X → List ℕ) → Result (Validated × X) CheckError → Output
+    → Type 0
+IsCheckSaid text (Ok a) s = IsLinesOf (yes_line ++ text a.1) s
+IsCheckSaid text (Err (Decode fault)) s = IsRefusal Omitted fault s
+IsCheckSaid text (Err (Validation fault)) s = IsRefused fault s
 
 -- What the check of such objects answers, and what is said of it: unless memory runs out, a yes
 -- exactly where the octets begin with a good one, and where they begin with one that is not good,
 -- the fault of its first check that fails.
-pub record IsChecked {X : Type 0} (causes : Causes) (kind : signed.ObjectKind X)
-    (form : List ℕ → X → Type 0) (text : X → List ℕ) (mode : Mode) (digest : Digester)
-    (verdict : Verdict) (issuer : Validated) (now : Moment) (octets : List ℕ)
-    (s : Output) : Type 0 where
+pub record IsChecked {X : Type 0} (kind : signed.ObjectKind X) (form : List ℕ → X → Type 0)
+    (text : X → List ℕ) (mode : Mode) (digest : Digester) (verdict : Verdict) (issuer : Validated)
+    (now : Moment) (octets : List ℕ) (s : Output) : Type 0 where
   pub result : Result (Validated × X) CheckError
   pub first : Checks kind form mode digest verdict issuer now passes octets result
   pub exact : IsExact kind form mode digest verdict issuer now passes octets result
-  pub said : IsCheckSaid causes text result s
+  pub said : IsCheckSaid text result s
 
 -- what is said of the check of such objects, unless memory runs out
-abbrev pub IsCheckedAs : {X : Type 0} → Causes → signed.ObjectKind X → (List ℕ → X → Type 0)
+abbrev pub IsCheckedAs : {X : Type 0} → signed.ObjectKind X → (List ℕ → X → Type 0)
     → (X → List ℕ) → Mode → Digester → Verdict → Validated → Moment → List ℕ → Output → Type 0
-IsCheckedAs causes kind form text mode digest verdict issuer now octets s =
-    (s ≡ out_of_memory) ⊎ IsChecked causes kind form text mode digest verdict issuer now octets s
+IsCheckedAs kind form text mode digest verdict issuer now octets s =
+    (s ≡ out_of_memory) ⊎ IsChecked kind form text mode digest verdict issuer now octets s
 
 -- What is said of octets that may begin with an object of a kind, under an issuer, with these
 -- options.
-abbrev pub CheckedUnder : Causes → Options → Kind → Digester → Verdict → Validated → Moment → List ℕ
-    → Output → Type 0
-CheckedUnder causes options kind digest verdict issuer now octets s =
+abbrev pub CheckedUnder : Options → Kind → Digester → Verdict → Validated → Moment → List ℕ → Output
+    → Type 0
+CheckedUnder options kind digest verdict issuer now octets s =
     OfKind options kind (λ X asked form text.
-    IsCheckedAs causes asked form text (read_mode options) digest verdict issuer now octets s)
+    IsCheckedAs asked form text (read_mode options) digest verdict issuer now octets s)
 
 -- what is said of an object where certificates make this
 abbrev pub IsSaidUnder : (Validated → Output → Type 0) → Result Validated IssuerError → Output
@@ -114,12 +105,11 @@ IsSaidUnder P (Err fault) s = IsIssuerRefused fault s
 
 -- What is said of an object, by the octets of a trust anchor and of a chain under it: first of the
 -- issuer that they make, and then of the object.
-abbrev pub IsCheckedWith : Causes → Options → Kind → Digester → Verdict → Moment → List ℕ → List ℕ
+abbrev pub IsCheckedWith : Options → Kind → Digester → Verdict → Moment → List ℕ → List ℕ
     → List (List ℕ) → Output → Type 0
-IsCheckedWith causes options kind digest verdict now object anchor chain s =
+IsCheckedWith options kind digest verdict now object anchor chain s =
     (issuer : Result Validated IssuerError) × MakesIssuer verdict now anchor chain issuer
-    × IsSaidUnder (λ v said. CheckedUnder causes options kind digest verdict v now object said)
-    issuer s
+    × IsSaidUnder (λ v said. CheckedUnder options kind digest verdict v now object said) issuer s
 
 -- What is said where a text is to be a list of verdicts: by `P` of its lines, if it is one, and
 -- else that it is none.
@@ -137,6 +127,6 @@ IsByVerdicts P text s = IsByLines (λ lines said. P (is_listed lines) said) text
 abbrev pub CheckOf : Options → Kind → Moment → List (List ℕ) → Output → Type 0
 CheckOf options kind now (object ∷ verdicts ∷ anchor ∷ chain) s =
     IsByVerdicts
-    (λ verdict said. IsCheckedWith Omitted options kind sha256 verdict now object anchor chain said)
+    (λ verdict said. IsCheckedWith options kind sha256 verdict now object anchor chain said)
     verdicts s
 CheckOf options kind now files s = ⊥

@@ -4,6 +4,6 @@ pub mod Command
 pub mod Held
 pub mod Rta
 pub mod Same
-pub mod Verify
+pub mod Sufficing
 pub mod Walk
 pub mod Yes

@@ -20,7 +20,6 @@ use Rattle.rpki_verdicts.specs.Listed.{is_listed}
 use Rattle.rpki_cli.specs.Answer.{Output, out_of_memory, malformed}
 use Rattle.rpki_cli.specs.Shown.{IsLinesOf}
 use Rattle.rpki_cli.specs.Refusal.{IsRefusal}
-use Rattle.rpki_cli.specs.declared.causes.Causes.{Causes}
 use Rattle.rpki_cli.specs.declared.causes.Causes.TheVariants.{Omitted}
 use Rattle.rpki_show.specs.Texts.Rta.{attestation_text}
 use Rattle.rpki_command.specs.Anchors.{given_in, AreMade}
@@ -36,43 +35,31 @@ supply_of (Tal tal) = Supply.Tal tal.key
 supply_of (Ca ca) = Supply.Ca ca.cert.certificate.tbs.extensions.key.subject_key
     ca.cert.certificate.tbs.key (set_of ca.sets)
 
--- What is said of what a check answers: the text of the attestation, or why there is none.
-abbrev pub IsRtaSaid : Causes → (KeptWhole → List ℕ) → Result KeptWhole CheckError → Output → Type 0
-IsRtaSaid causes text (Ok r) s = IsLinesOf (text r) s
-IsRtaSaid causes text (Err (Decode fault)) s = IsRefusal causes fault s
-IsRtaSaid causes text (Err (Validation fault)) s = IsRefused fault s
+-- What is said of what a check answers: yes and the lines of the content, or why not.
+abbrev pub IsRtaSaid : Result KeptWhole CheckError → Output → Type 0
+IsRtaSaid (Ok r) s = IsLinesOf (yes_line ++ attestation_text r.content) s
+IsRtaSaid (Err (Decode fault)) s = IsRefusal Omitted fault s
+IsRtaSaid (Err (Validation fault)) s = IsRefused fault s
 
--- the text of a yes: that it is one, and the lines of the content
-abbrev pub granted_text : KeptWhole → List ℕ
-granted_text r = yes_line ++ attestation_text r.content
-
--- What the check of an attestation answers by this cryptography, and that P holds of what is said
--- of it: unless memory runs out, a yes only where the octets begin with one that is granted under
--- these supplies, and a refusal only where they begin with none, or with one that is not, if the
--- identifiers of what it carries are distinct. Where they begin with one, a refusal names the fault
--- of the first thing that fails. `given` has the locators and CAs that supply these.
-pub record IsRtaChecked {C : Type 0} (P : Result KeptWhole CheckError → Output → Type 0)
-    (digests : C → Digester) (says : C → Verdict) (crypto : C) (now : Moment)
-    (supplied : List Supply) (octets : List ℕ) (s : Output) : Type 0 where
+-- What the check of an attestation answers by this cryptography, and what is said of it: unless
+-- memory runs out, a yes only where the octets begin with one that is granted under these supplies,
+-- and a refusal only where they begin with none, or with one that is not, if the identifiers of what
+-- it carries are distinct. Where they begin with one, a refusal names the fault of the first thing
+-- that fails. `given` has the locators and CAs that supply these.
+pub record IsRtaChecked {C : Type 0} (digests : C → Digester) (says : C → Verdict) (crypto : C)
+    (now : Moment) (supplied : List Supply) (octets : List ℕ) (s : Output) : Type 0 where
   pub result : Result KeptWhole CheckError
   pub given : List (Supplied Locator Validated)
   pub same : map supply_in given ≡ supplied
   pub first : IfErr result (IsFirstOfRta digests says crypto now given octets)
   pub exact : IsExactRta (digests crypto) (says crypto) now supplied octets result
-  pub said : P result s
+  pub said : IsRtaSaid result s
 
--- What is said of octets that may begin with an attestation, where P says what is said of what the
--- check of it answers, unless memory runs out.
-abbrev pub AttestedAs : {C : Type 0} → (Result KeptWhole CheckError → Output → Type 0)
-    → (C → Digester) → (C → Verdict) → C → Moment → List Supply → List ℕ → Output → Type 0
-AttestedAs P digests says crypto now supplied octets s =
-    (s ≡ out_of_memory) ⊎ IsRtaChecked P digests says crypto now supplied octets s
-
--- What is said in lines of octets that may begin with an attestation.
-abbrev pub AttestedUnder : {C : Type 0} → Causes → (C → Digester) → (C → Verdict) → C → Moment
+-- what is said of octets that may begin with an attestation, unless memory runs out
+abbrev pub AttestedUnder : {C : Type 0} → (C → Digester) → (C → Verdict) → C → Moment
     → List Supply → List ℕ → Output → Type 0
-AttestedUnder causes digests says crypto now supplied octets s =
-    AttestedAs (IsRtaSaid causes granted_text) digests says crypto now supplied octets s
+AttestedUnder digests says crypto now supplied octets s =
+    (s ≡ out_of_memory) ⊎ IsRtaChecked digests says crypto now supplied octets s
 
 -- why files make no anchor, as it is said
 abbrev pub anchor_refusal : AnchorError → Output
@@ -92,13 +79,13 @@ IsSaidWith P (Err fault) s = IsAnchorRefused fault s
 
 -- What is said of an attestation, by its octets and those of the files that these anchors name:
 -- first of the anchors, and then of the attestation.
-abbrev pub IsAttestedWith : {C : Type 0} → Causes → (C → Digester) → (C → Verdict) → C → Moment
+abbrev pub IsAttestedWith : {C : Type 0} → (C → Digester) → (C → Verdict) → C → Moment
     → List (List ℕ) → List ℕ → List (List ℕ) → Output → Type 0
-IsAttestedWith causes digests says crypto now words object files s =
+IsAttestedWith digests says crypto now words object files s =
     (anchors : Result (Vec Anchor Global) AnchorError)
     × AreMade (says crypto) now (given_in words files) anchors
-    × IsSaidWith
-    (λ supplied said. AttestedUnder causes digests says crypto now supplied object said) anchors s
+    × IsSaidWith (λ supplied said. AttestedUnder digests says crypto now supplied object said)
+    anchors s
 
 -- What is said of files: of the attestation, the verdicts, and those that these anchors name. The
 -- cryptography is the list of verdicts, seen as its lines. Digests are SHA-256 (RFC 7935, section
@@ -106,6 +93,6 @@ IsAttestedWith causes digests says crypto now words object files s =
 abbrev pub RtaOf : Moment → List (List ℕ) → List (List ℕ) → Output → Type 0
 RtaOf now words (object ∷ verdicts ∷ files) s =
     IsByLines
-    (λ lines said. IsAttestedWith Omitted (λ _. sha256) is_listed lines now words object files said)
+    (λ lines said. IsAttestedWith (λ _. sha256) is_listed lines now words object files said)
     verdicts s
 RtaOf now words files s = ⊥

@@ -15,8 +15,6 @@ use Rattle.rpki_sigobj.specs.Verify.{Digester}
 use Rattle.rpki_cli.specs.Answer.{Output}
 use Rattle.rpki_cli.specs.Options.{manifest_rule}
 use Rattle.rpki_cli.specs.Words.{chain_in, names_in}
-use Rattle.rpki_cli.specs.declared.causes.Causes.{Causes}
-use Rattle.rpki_cli.specs.declared.causes.Causes.TheVariants.{Omitted}
 use Rattle.rpki_cli.specs.declared.words.Options.{Options}
 use Rattle.rpki_show.specs.Options.{read_mode}
 use Rattle.rpki_command.specs.Check.{IsCheckedAs, IsSaidUnder, IsByVerdicts}
@@ -33,27 +31,26 @@ hand_in tail others = zip (names_in tail) (drop (length (chain_in tail)) others)
 
 -- What is said of octets that may begin with a manifest, under an issuer, with these options: what
 -- a check says of a manifest, but after a yes come the entries that the files hold.
-abbrev pub WalkedUnder : Causes → Options → Digester → Verdict → Validated → Moment → List AtHand
-    → List ℕ → Output → Type 0
-WalkedUnder causes options digest verdict issuer now hand octets s =
-    IsCheckedAs causes manifest_kind (ManifestForm (manifest_rule options) Der)
-    (held_text digest hand) (read_mode options) digest verdict issuer now octets s
+abbrev pub WalkedUnder : Options → Digester → Verdict → Validated → Moment → List AtHand → List ℕ
+    → Output → Type 0
+WalkedUnder options digest verdict issuer now hand octets s =
+    IsCheckedAs manifest_kind (ManifestForm (manifest_rule options) Der) (held_text digest hand)
+    (read_mode options) digest verdict issuer now octets s
 
 -- What is said of a manifest, by the octets of a trust anchor and of the other files that these
 -- words name: first of the issuer that the certificates make, and then of the manifest.
-abbrev pub IsWalkedWith : Causes → Options → Digester → Verdict → Moment → List (List ℕ) → List ℕ
-    → List ℕ → List (List ℕ) → Output → Type 0
-IsWalkedWith causes options digest verdict now tail object anchor others s =
+abbrev pub IsWalkedWith : Options → Digester → Verdict → Moment → List (List ℕ) → List ℕ → List ℕ
+    → List (List ℕ) → Output → Type 0
+IsWalkedWith options digest verdict now tail object anchor others s =
     (issuer : Result Validated IssuerError)
     × MakesIssuer verdict now anchor (certs_in tail others) issuer
-    × IsSaidUnder (λ v said. WalkedUnder causes options digest verdict v now
-    (hand_in tail others) object said) issuer s
+    × IsSaidUnder (λ v said. WalkedUnder options digest verdict v now (hand_in tail others) object
+    said) issuer s
 
 -- What is said of files: of the manifest, the verdicts, the certificate of a trust anchor, and the
 -- others that these words name. Digests are SHA-256 (RFC 7935, section 2).
 abbrev pub WalkOf : Options → Moment → List (List ℕ) → List (List ℕ) → Output → Type 0
 WalkOf options now tail (object ∷ verdicts ∷ anchor ∷ others) s =
-    IsByVerdicts (λ verdict said. IsWalkedWith Omitted options sha256 verdict now tail object
-    anchor others said)
-    verdicts s
+    IsByVerdicts (λ verdict said. IsWalkedWith options sha256 verdict now tail object anchor others
+    said) verdicts s
 WalkOf options now tail files s = ⊥

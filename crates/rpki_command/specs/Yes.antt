@@ -24,8 +24,7 @@ use Rattle.rpki_sigobj.specs.Signed.Kind as signed
 use Rattle.rpki_sigobj.specs.Signed.{Whole, ObjectForm}
 use Rattle.rpki_verdicts.specs.Listed.{is_listed}
 use Rattle.rpki_verdicts.specs.Verdicts.{AreVerdicts}
-use Rattle.rpki_cli.specs.Answer.{Run, IsWhole, Output, Printed, Complained, Reported}
-use Rattle.rpki_cli.specs.Answer.{out_of_memory}
+use Rattle.rpki_cli.specs.Answer.{Run, IsWhole, Output, Printed, Complained, out_of_memory}
 use Rattle.rpki_cli.specs.Options.{manifest_rule}
 use Rattle.rpki_cli.specs.declared.words.Command.{Command}
 use Rattle.rpki_cli.specs.declared.words.Command.TheVariants as commands
@@ -46,17 +45,12 @@ use Rattle.rpki_command.specs.declared.anchors.AnchorError.{AnchorError}
 abbrev pub status_of : Output → ℕ
 status_of (Printed text status) = status
 status_of (Complained text status) = status
-status_of (Reported out err status) = status
 
 -- The files of an object and of certificates: the name of each, or its octets.
 pub record FilesOfCheck : Type 0 where
   pub object : List ℕ
   pub anchor : List ℕ
   pub chain : List (List ℕ)
-
--- the files of a check, in the order of the words
-abbrev pub in_order : FilesOfCheck → List (List ℕ)
-in_order files = files.object ∷ files.anchor ∷ files.chain
 
 -- the files of a check with the file of verdicts, in the order of the words
 abbrev pub in_order_with : List ℕ → FilesOfCheck → List (List ℕ)
@@ -155,17 +149,13 @@ pub record IsRefusedAnchored (verdict : Verdict) (now : Moment) (given : List Gi
   pub made : MakeEach verdict now given anchors
   pub no : BeginsWithNoGranted verdict now (map supply_of anchors) object
 
--- By this verdict one of the anchors is not made, and not for want of memory; or under them the
--- octets begin with no attestation that is granted at this moment, if the identifiers of what it
--- carries are distinct.
-abbrev pub IsNotGrantedBy : Verdict → Moment → List Given → List ℕ → Type 0
-IsNotGrantedBy verdict now given object =
-    HasNoAnchor verdict now given ⊎ IsRefusedAnchored verdict now given object
-
--- That is what it means that a no to an attestation is right, under the anchors of these words.
+-- A no to an attestation is right by a verdict: one of the anchors of these words is not made, and
+-- not for want of memory; or under them the octets begin with no attestation that is granted at this
+-- moment, if the identifiers of what it carries are distinct.
 abbrev pub IsRightNoRta : Verdict → Moment → List (List ℕ) → List ℕ → List (List ℕ) → Type 0
 IsRightNoRta verdict now words object files =
-    IsNotGrantedBy verdict now (given_in words files) object
+    HasNoAnchor verdict now (given_in words files)
+    ⊎ IsRefusedAnchored verdict now (given_in words files) object
 
 -- The octets begin with no object of the kind, or with one that is not good under this issuer.
 abbrev pub BeginsWithNoGood : {X : Type 0} → signed.ObjectKind X → (List ℕ → X → Type 0) → Mode

@@ -2,10 +2,9 @@
 
 ghost use Rattle.std.specs.Prelude.{◌≡◌, ◌≤◌, IfOk, length, map, true};
 ghost use Rattle.rpki_rta.specs.Refused.{supply_in};
-ghost use Rattle.rpki_verdicts.specs.Attested.{octets_of_chains};
 ghost use Rattle.rpki_cli.specs.Words.{texts, files_of_anchors};
 ghost use Rattle.rpki_command.specs.Anchors.{given_in, AreMade, IsLocated, IsChained, MakesOf};
-ghost use Rattle.rpki_command.specs.Anchors.{locator_fault, chains_in};
+ghost use Rattle.rpki_command.specs.Anchors.{locator_fault};
 ghost use Rattle.rpki_command.specs.Rta.{supply_of};
 
 use bytes::Bytes;
@@ -152,27 +151,4 @@ fn supply_of<'s>(anchor: &'s Anchor) -> Supply<'s>
         Anchor::Tal(tal) => Supplied::Tal(tal),
         Anchor::Ca(ca) => Supplied::Ca(ca),
     }
-}
-
-/// The files of the chains that these words name, in their order: the others are locators. Refuses
-/// where memory runs out.
-pub fn chains_of<'f>(
-    alloc: Global,
-    words: &[&str],
-    files: &'f [Bytes],
-) -> Result<Vec<&'f [Bytes]>, AllocError>
-    requires { length (files_of_anchors (texts words.now)) ≤ length files.now }
-    ensures { IfOk result (λ chains. octets_of_chains chains.items
-        ≡ chains_in (given_in (texts words.now) files.now)) }
-{
-    let mut chains = Vec::new(alloc);
-    let mut rest = files;
-    for word in words {
-        let (own, others) = rest.split_at(count_of(word));
-        rest = others;
-        if !is_locator(word) {
-            chains.push(own)?;
-        }
-    }
-    Ok(chains)
 }

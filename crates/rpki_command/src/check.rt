@@ -74,10 +74,7 @@ fn check_files<'a>(
         [object, verdicts, anchor, chain @ ..] => match Verdicts::read(verdicts) {
             None => Answer::BadVerdicts,
             Some(verdicts) => {
-                let causes = Causes::Omitted;
-                check_with(
-                    alloc, causes, options, kind, object, anchor, chain, &verdicts, now,
-                )
+                check_with(alloc, options, kind, object, anchor, chain, &verdicts, now)
             }
         },
         _ => unreachable!(),
@@ -86,9 +83,8 @@ fn check_files<'a>(
 
 /// Answers whether the octets begin with a good object of the kind under the issuer that these
 /// certificates make, at this moment.
-pub fn check_with<'a, K: Crypto>(
+fn check_with<'a, K: Crypto>(
     alloc: Global,
-    causes: Causes,
     options: Options,
     kind: Kind,
     object: &Bytes,
@@ -97,14 +93,13 @@ pub fn check_with<'a, K: Crypto>(
     crypto: &K,
     now: Time,
 ) -> Answer<'a>
-    ensures { IsCheckedWith causes options kind (K.digest_of crypto.now) (K.is_signed crypto.now)
+    ensures { IsCheckedWith options kind (K.digest_of crypto.now) (K.is_signed crypto.now)
         now object.now anchor.now chain.now (said result) }
 {
     match issuer_at(alloc, anchor, chain, crypto, now) {
         Err(error) => refused_issuer(alloc, error),
         Ok(issuer) => {
             let action = CheckObject {
-                causes,
                 octets: object,
                 issuer: &issuer,
                 crypto,
@@ -120,7 +115,6 @@ pub fn check_with<'a, K: Crypto>(
 /// To check the object at the front of the octets under this issuer, at this moment.
 #[derive(Drop)]
 struct CheckObject<'s, K: Crypto> {
-    causes: Causes,
     octets: &'s Bytes,
     issuer: &'s ResourceCert,
     crypto: &'s K,
@@ -129,7 +123,7 @@ struct CheckObject<'s, K: Crypto> {
 
 impl<'s, K: Crypto> Action for CheckObject<'s, K> {
     ghost says = { λ options X asked form text action s.
-        IsCheckedAs action.causes asked form text (read_mode options)
+        IsCheckedAs asked form text (read_mode options)
         (K.digest_of action.crypto.now) (K.is_signed action.crypto.now) action.issuer.now
         action.moment action.octets.now s };
 
@@ -146,7 +140,7 @@ impl<'s, K: Crypto> Action for CheckObject<'s, K> {
                     self.moment,
                     pass,
                 );
-                answer_checked(alloc, self.causes, checked)
+                answer_checked(alloc, checked)
             }
         }
     }
@@ -179,13 +173,12 @@ pub fn check_passed<C: Lines, K: Crypto, F: FnOnce(&Cert) -> Result<(), Validati
 /// What is said of what a check answers.
 fn answer_checked<'a, C: Lines>(
     alloc: Global,
-    causes: Causes,
     checked: Result<(ResourceCert, C), CheckError>,
 ) -> Answer<'a>
-    ensures { IsCheckSaid causes (C.lines Plain) checked (said result) }
+    ensures { IsCheckSaid (C.lines Plain) checked (said result) }
 {
     match checked {
-        Err(CheckError::Decode(error)) => refusal(alloc, causes, error),
+        Err(CheckError::Decode(error)) => refusal(alloc, Causes::Omitted, error),
         Err(CheckError::Validation(error)) => refused(alloc, error),
         Ok((cert, content)) => {
             drop(cert);
@@ -197,7 +190,7 @@ fn answer_checked<'a, C: Lines>(
 }
 
 /// A yes, and the lines of a content.
-pub fn say_yes<'a, C: Lines>(alloc: Global, content: &C) -> Answer<'a>
+fn say_yes<'a, C: Lines>(alloc: Global, content: &C) -> Answer<'a>
     ensures { IsLinesOf (yes_line ++ C.lines Plain content.now) (said result) }
 {
     let mut text = String::new(alloc);

@@ -8,6 +8,7 @@ ghost use Rattle.rpki_certs.specs.Issuer.{MakesIssuer};
 ghost use Rattle.rpki_certs.specs.Validate.{Validated};
 ghost use Rattle.rpki_certs.specs.Verify.{Verdict};
 ghost use Rattle.rpki_certs.specs.declared.issuer.IssuerError.{IssuerError};
+ghost use Rattle.rpki_rsa.specs.Signature.{is_rsa_signature};
 ghost use Rattle.rpki_rta.specs.Granted.{IsDistinct};
 ghost use Rattle.rpki_cli.specs.Answer.{Run, out_of_memory};
 ghost use Rattle.rpki_cli.specs.Command.{AreTold, IsRunOf, objects_language};
@@ -20,6 +21,7 @@ ghost use Rattle.rpki_cli.specs.declared.words.Options.{Options};
 ghost use Rattle.rpki_command.specs.Check.{issuer_refusal};
 ghost use Rattle.rpki_command.specs.Command.{objects_program};
 ghost use Rattle.rpki_command.specs.Same.{IsSameIssuer};
+ghost use Rattle.rpki_command.specs.Sufficing.{IsGoodBy, IsGoodList, NeverSaysNo};
 ghost use Rattle.rpki_command.specs.Yes.{FilesOfCheck, in_order_with, check_order, walk_order};
 ghost use Rattle.rpki_command.specs.Yes.{IsRightWalk, rta_order, IsRightRta, IsRightNoRta};
 ghost use Rattle.rpki_command.specs.Yes.{IsRightYes, IsRightNo, HoldsByList};
@@ -119,4 +121,19 @@ pub fn yes_and_no_exclude_each_other()
         (object : List ℕ) (octets : List (List ℕ)) (run : Run)
         (yes : IsRightRta verdict now anchors object octets run)
         → IsDistinct sha256 verdict yes.rta → ¬ IsRightNoRta verdict now anchors object octets }
+{}
+
+/// The list of good signatures that `rpki_verify verdicts` prints of the files of a check suffices
+/// for a yes by `rpki_objects check` with the same options, of each kind and at each moment: where
+/// the object is good by the signatures, it is good by the list, and no run with it ends with
+/// status 1.
+pub fn lists_suffice()
+    ensures yes { (options : Options) (kind : Kind) (now : Moment) (files : FilesOfCheck)
+        (text : List ℕ) → IsGoodList options files text
+        → IsGoodBy is_rsa_signature options kind now files
+        → HoldsByList (λ verdict. IsGoodBy verdict options kind now files) text }
+    ensures never_no { (options : Options) (kind : Kind) (now : Moment) (files : FilesOfCheck)
+        (text : List ℕ) → IsGoodList options files text
+        → IsGoodBy is_rsa_signature options kind now files
+        → NeverSaysNo options kind now files text }
 {}

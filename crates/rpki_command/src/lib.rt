@@ -1,5 +1,5 @@
-//! The commands of the programs of the signed objects of the RPKI: what each says of the files that
-//! it is asked about. Those of the program that computes signatures stand in `verify`.
+//! The commands of the program with verdicts, `rpki_objects`: what each says of the files that it is
+//! asked about.
 #![tactic(auto)]
 
 mod anchors;
@@ -9,8 +9,6 @@ mod held;
 pub mod laws;
 mod program;
 mod rta;
-pub mod verify;
 mod walk;
 
-pub use check::check_with;
-pub use program::{Objects, answer_order};
+pub use program::Objects;

@@ -6,6 +6,7 @@ ghost use Rattle.rpki_cli.specs.Command.{HasRead, IsTaskAnswer, IsOfFile, IsAnsw
 ghost use Rattle.rpki_cli.specs.Command.{HaveRead};
 ghost use Rattle.rpki_cli.specs.Shown.{IsShown};
 ghost use Rattle.rpki_cli.specs.Words.{texts};
+ghost use Rattle.rpki_cli.specs.declared.causes.Causes.TheVariants.{Omitted};
 ghost use Rattle.rpki_show.specs.Attestation.{AttestationLines, RtaLines};
 ghost use Rattle.rpki_show.specs.Contents.{LinesOf};
 ghost use Rattle.rpki_show.specs.Objects.{ObjectLinesOf};
@@ -37,10 +38,6 @@ impl Program for Objects {
     ) -> Answer<'a> {
         answer(alloc, words, store)
     }
-
-    fn wrong<'a>(&self, _words: &'a [&'a str]) -> Answer<'a> {
-        Answer::Usage
-    }
 }
 
 /// What the program answers to its words.
@@ -53,32 +50,30 @@ fn answer<'a, S: Store>(alloc: Global, words: &'a [&'a str], store: &mut S) -> A
 {
     match parse(words) {
         None => Answer::Usage,
-        Some(order) => answer_order(alloc, Causes::Omitted, &order, store),
+        Some(order) => answer_order(alloc, &order, store),
     }
 }
 
-/// What the program answers to an order, where the causes of refusals of what is shown are said, or
-/// not.
-pub fn answer_order<'a, S: Store>(
+/// What the program answers to an order.
+fn answer_order<'a, S: Store>(
     alloc: Global,
-    causes: Causes,
     order: &Order<Command<'a>>,
     store: &mut S,
 ) -> Answer<'a>
     ensures said { IsTaskAnswer (S.told store.old)
-        (command_task causes order.now.options order.now.command)
+        (command_task order.now.options order.now.command)
         (S.reads store.old) (S.reads store.new) (said result) }
-    ensures reads { HasRead (command_task causes order.now.options order.now.command)
+    ensures reads { HasRead (command_task order.now.options order.now.command)
         (S.reads store.old) (S.reads store.new) }
     ensures same { S.told store.new ≡ S.told store.old }
 {
     let options = order.options;
     match &order.command {
-        Command::Content { kind, file } => show_file(alloc, causes, options, *kind, file.0, store),
-        Command::ContentRta { file } => show_attestation_file(alloc, causes, file.0, store),
-        Command::Show { kind, file } => show_signed(alloc, causes, options, *kind, file.0, store),
-        Command::ShowRta { file } => show_rta_file(alloc, causes, file.0, store),
-        Command::ShowTal { file } => show_locator(alloc, causes, file.0, store),
+        Command::Content { kind, file } => show_file(alloc, options, *kind, file.0, store),
+        Command::ContentRta { file } => show_attestation_file(alloc, file.0, store),
+        Command::Show { kind, file } => show_signed(alloc, options, *kind, file.0, store),
+        Command::ShowRta { file } => show_rta_file(alloc, file.0, store),
+        Command::ShowTal { file } => show_locator(alloc, file.0, store),
         Command::Check {
             kind,
             file,
@@ -93,7 +88,7 @@ pub fn answer_order<'a, S: Store>(
                 moment: *moment,
             };
             let first = [file.0, verdicts.0, anchor.0];
-            answer_files(alloc, causes, check, &first, chain.0, store)
+            answer_files(alloc, check, &first, chain.0, store)
         }
         Command::Walk {
             file,
@@ -108,7 +103,7 @@ pub fn answer_order<'a, S: Store>(
                 tail: tail.0,
             };
             let before = [file.0, verdicts.0, anchor.0];
-            answer_tail(alloc, causes, walk, &before, tail.0, store)
+            answer_tail(alloc, walk, &before, tail.0, store)
         }
         Command::Rta {
             file,
@@ -121,7 +116,7 @@ pub fn answer_order<'a, S: Store>(
                 anchors: anchors.0,
             };
             let before = [file.0, verdicts.0];
-            answer_anchors(alloc, causes, rta, &before, anchors.0, store)
+            answer_anchors(alloc, rta, &before, anchors.0, store)
         }
     }
 }
@@ -129,94 +124,76 @@ pub fn answer_order<'a, S: Store>(
 /// Answers with the lines of the content of this kind in a file, if there is one.
 fn show_file<'a, S: Store>(
     alloc: Global,
-    causes: Causes,
     options: Options,
     kind: Kind,
     file: &'a str,
     store: &mut S,
 ) -> Answer<'a>
-    ensures said { IsOfFile causes (S.told store.old) file.now
-        (IsShown causes (LinesOf options kind)) (said result) }
+    ensures said { IsOfFile (S.told store.old) file.now
+        (IsShown Omitted (LinesOf options kind)) (said result) }
     ensures reads { S.reads store.new ≡ S.reads store.old ++ file.now ∷ [] }
     ensures same { S.told store.new ≡ S.told store.old }
 {
     match store.read(alloc, file) {
-        Ok(octets) => show_kind(alloc, causes, options, kind, octets),
-        Err(error) => unread(causes, error, file),
+        Ok(octets) => show_kind(alloc, Causes::Omitted, options, kind, octets),
+        Err(error) => unread(error, file),
     }
 }
 
 /// Answers with the lines of the signed object of this kind in a file, if there is one.
 fn show_signed<'a, S: Store>(
     alloc: Global,
-    causes: Causes,
     options: Options,
     kind: Kind,
     object: &'a str,
     store: &mut S,
 ) -> Answer<'a>
-    ensures said { IsOfFile causes (S.told store.old) object.now
-        (IsShown causes (ObjectLinesOf options kind)) (said result) }
+    ensures said { IsOfFile (S.told store.old) object.now
+        (IsShown Omitted (ObjectLinesOf options kind)) (said result) }
     ensures reads { S.reads store.new ≡ S.reads store.old ++ object.now ∷ [] }
     ensures same { S.told store.new ≡ S.told store.old }
 {
     match store.read(alloc, object) {
-        Ok(octets) => show_object(alloc, causes, options, kind, octets),
-        Err(error) => unread(causes, error, object),
+        Ok(octets) => show_object(alloc, Causes::Omitted, options, kind, octets),
+        Err(error) => unread(error, object),
     }
 }
 
 /// Answers with the lines of the content of an attestation in a file, if there is one.
-fn show_attestation_file<'a, S: Store>(
-    alloc: Global,
-    causes: Causes,
-    content: &'a str,
-    store: &mut S,
-) -> Answer<'a>
-    ensures said { IsOfFile causes (S.told store.old) content.now
-        (IsShown causes AttestationLines) (said result) }
+fn show_attestation_file<'a, S: Store>(alloc: Global, content: &'a str, store: &mut S) -> Answer<'a>
+    ensures said { IsOfFile (S.told store.old) content.now
+        (IsShown Omitted AttestationLines) (said result) }
     ensures reads { S.reads store.new ≡ S.reads store.old ++ content.now ∷ [] }
     ensures same { S.told store.new ≡ S.told store.old }
 {
     match store.read(alloc, content) {
-        Ok(octets) => show_attestation(alloc, causes, octets),
-        Err(error) => unread(causes, error, content),
+        Ok(octets) => show_attestation(alloc, Causes::Omitted, octets),
+        Err(error) => unread(error, content),
     }
 }
 
 /// Answers with the lines of the attestation in a file, if there is one.
-fn show_rta_file<'a, S: Store>(
-    alloc: Global,
-    causes: Causes,
-    rta: &'a str,
-    store: &mut S,
-) -> Answer<'a>
-    ensures said { IsOfFile causes (S.told store.old) rta.now (IsShown causes RtaLines)
+fn show_rta_file<'a, S: Store>(alloc: Global, rta: &'a str, store: &mut S) -> Answer<'a>
+    ensures said { IsOfFile (S.told store.old) rta.now (IsShown Omitted RtaLines)
         (said result) }
     ensures reads { S.reads store.new ≡ S.reads store.old ++ rta.now ∷ [] }
     ensures same { S.told store.new ≡ S.told store.old }
 {
     match store.read(alloc, rta) {
-        Ok(octets) => show_rta(alloc, causes, octets),
-        Err(error) => unread(causes, error, rta),
+        Ok(octets) => show_rta(alloc, Causes::Omitted, octets),
+        Err(error) => unread(error, rta),
     }
 }
 
 /// Answers with the lines of the trust anchor locator that the file of this name is, if it is one.
-#[tactic(auto, using(crate::proofs::Untold::by_causes))]
-fn show_locator<'a, S: Store>(
-    alloc: Global,
-    causes: Causes,
-    name: &'a str,
-    store: &mut S,
-) -> Answer<'a>
-    ensures said { IsOfFile causes (S.told store.old) name.now (IsShown causes TalLines)
+fn show_locator<'a, S: Store>(alloc: Global, name: &'a str, store: &mut S) -> Answer<'a>
+    ensures said { IsOfFile (S.told store.old) name.now (IsShown Omitted TalLines)
         (said result) }
     ensures reads { S.reads store.new ≡ S.reads store.old ++ name.now ∷ [] }
     ensures same { S.told store.new ≡ S.told store.old }
 {
     match store.read(alloc, name) {
         Ok(octets) => show_tal(alloc, octets.as_slice()),
-        Err(error) => unread(causes, error, name),
+        Err(error) => unread(error, name),
     }
 }

@@ -1,4 +1,4 @@
-//! What the programs answer of attestations under anchors.
+//! What the program answers of attestations under anchors.
 
 ghost use Rattle.std.specs.Prelude.{◌≤◌, ◌+◌, ◌++◌, length, map, IfErr};
 ghost use Rattle.rpki_rta.specs.Refused.{supply_in};
@@ -8,9 +8,9 @@ ghost use Rattle.rpki_cli.specs.Shown.{IsLinesOf};
 ghost use Rattle.rpki_cli.specs.Words.{texts, files_of_anchors};
 ghost use Rattle.rpki_show.specs.Grows.{Grows};
 ghost use Rattle.rpki_show.specs.Texts.Rta.{attestation_text};
-ghost use Rattle.rpki_command.specs.Check.{yes_line, Settles};
+ghost use Rattle.rpki_command.specs.Check.{yes_line};
 ghost use Rattle.rpki_command.specs.Rta.{supply_of, IsRtaSaid, AttestedUnder, IsAnchorRefused};
-ghost use Rattle.rpki_command.specs.Rta.{AttestedAs, IsAttestedWith, RtaOf, granted_text};
+ghost use Rattle.rpki_command.specs.Rta.{IsAttestedWith, RtaOf};
 
 use crate::anchors::{Anchor, AnchorError, anchors_of, supplies_of};
 use crate::check::{refused, refused_issuer};
@@ -56,10 +56,7 @@ fn check_files<'a>(alloc: Global, now: Time, words: &[&str], files: &[Bytes]) ->
     match files {
         [object, verdicts, others @ ..] => match Verdicts::read(verdicts) {
             None => Answer::BadVerdicts,
-            Some(verdicts) => {
-                let causes = Causes::Omitted;
-                check_rta(alloc, causes, object, words, others, &verdicts, now)
-            }
+            Some(verdicts) => check_rta(alloc, object, words, others, &verdicts, now),
         },
         _ => unreachable!(),
     }
@@ -67,9 +64,8 @@ fn check_files<'a>(alloc: Global, now: Time, words: &[&str], files: &[Bytes]) ->
 
 /// Answers whether the octets begin with an attestation that is granted at this moment, under the
 /// anchors that the words name, by the octets of their files.
-pub fn check_rta<'a, K: Crypto>(
+fn check_rta<'a, K: Crypto>(
     alloc: Global,
-    causes: Causes,
     object: &Bytes,
     words: &[&str],
     files: &[Bytes],
@@ -77,13 +73,13 @@ pub fn check_rta<'a, K: Crypto>(
     now: Time,
 ) -> Answer<'a>
     requires { length (files_of_anchors (texts words.now)) ≤ length files.now }
-    ensures { IsAttestedWith causes K.digest_of K.is_signed crypto.now now
+    ensures { IsAttestedWith K.digest_of K.is_signed crypto.now now
         (texts words.now) object.now files.now (said result) }
 {
     match anchors_of(alloc, words, files, crypto, now) {
         Err(error) => refused_anchor(alloc, error),
         Ok(anchors) => {
-            let answer = check_anchored(alloc, causes, object, &anchors, crypto, now);
+            let answer = check_anchored(alloc, object, &anchors, crypto, now);
             drop(anchors);
             answer
         }
@@ -93,57 +89,36 @@ pub fn check_rta<'a, K: Crypto>(
 /// Answers whether the octets begin with an attestation that is granted under these anchors.
 fn check_anchored<'a, K: Crypto>(
     alloc: Global,
-    causes: Causes,
     object: &Bytes,
     anchors: &[Anchor],
     crypto: &K,
     now: Time,
 ) -> Answer<'a>
-    ensures { AttestedUnder causes K.digest_of K.is_signed crypto.now now
+    ensures { AttestedUnder K.digest_of K.is_signed crypto.now now
         (map supply_of anchors.now) object.now (said result) }
 {
     match supplies_of(alloc, anchors) {
         Err(_) => Answer::OutOfMemory,
-        Ok(supplies) => check_supplied(alloc, causes, object, &supplies, crypto, now),
+        Ok(supplies) => check_supplied(alloc, object, &supplies, crypto, now),
     }
 }
 
 /// Answers whether the octets begin with an attestation that is granted under these supplies.
 fn check_supplied<'a, K: Crypto>(
     alloc: Global,
-    causes: Causes,
     object: &Bytes,
     supplies: &[Supply<'_>],
     crypto: &K,
     now: Time,
 ) -> Answer<'a>
-    ensures { AttestedUnder causes K.digest_of K.is_signed crypto.now now
+    ensures { AttestedUnder K.digest_of K.is_signed crypto.now now
         (map supply_in supplies.now) object.now (said result) }
 {
-    match granted(alloc, causes, object, supplies, crypto, now) {
-        Err(answer) => answer,
-        Ok(rta) => say_granted(alloc, rta),
-    }
-}
-
-/// The attestation at the front of the octets, where it is granted under these supplies, and else
-/// what is answered.
-fn granted<'a, K: Crypto>(
-    alloc: Global,
-    causes: Causes,
-    object: &Bytes,
-    supplies: &[Supply<'_>],
-    crypto: &K,
-    now: Time,
-) -> Result<Rta, Answer<'a>>
-    ensures { Settles (λ text s. AttestedAs (IsRtaSaid causes text) K.digest_of K.is_signed
-        crypto.now now (map supply_in supplies.now) object.now s) result }
-{
-    settled(alloc, causes, checked(alloc, object, supplies, crypto, now))
+    answer_checked(alloc, checked(alloc, object, supplies, crypto, now))
 }
 
 /// What a check of the octets under these supplies answers, as `check::rta` of `rpki_signed` does.
-pub fn checked<K: Crypto>(
+fn checked<K: Crypto>(
     alloc: Global,
     object: &Bytes,
     supplies: &[Supply<'_>],
@@ -161,28 +136,19 @@ pub fn checked<K: Crypto>(
     }
 }
 
-/// The attestation that a check finds granted, or what is answered.
-fn settled<'a>(
-    alloc: Global,
-    causes: Causes,
-    checked: Result<Rta, CheckError>,
-) -> Result<Rta, Answer<'a>>
-    ensures { Settles (λ text s. IsRtaSaid causes text checked s) result }
+/// What is said of what a check answers.
+fn answer_checked<'a>(alloc: Global, checked: Result<Rta, CheckError>) -> Answer<'a>
+    ensures { IsRtaSaid checked (said result) }
 {
     match checked {
-        Err(CheckError::Decode(error)) => Err(refusal(alloc, causes, error)),
-        Err(CheckError::Validation(error)) => Err(refused(alloc, error)),
-        Ok(rta) => Ok(rta),
+        Err(CheckError::Decode(error)) => refusal(alloc, Causes::Omitted, error),
+        Err(CheckError::Validation(error)) => refused(alloc, error),
+        Ok(rta) => {
+            let answer = say_yes(alloc, rta.content());
+            drop(rta);
+            answer
+        }
     }
-}
-
-/// Answers with a yes to an attestation, and lets it go.
-pub fn say_granted<'a>(alloc: Global, rta: Rta) -> Answer<'a>
-    ensures { IsLinesOf (granted_text rta) (said result) }
-{
-    let answer = say_yes(alloc, rta.content());
-    drop(rta);
-    answer
 }
 
 /// A yes, and the lines of a content.

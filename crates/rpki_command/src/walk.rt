@@ -1,4 +1,4 @@
-//! What the programs answer of a manifest and of files at hand.
+//! What the program answers of a manifest and of files at hand.
 
 ghost use Rattle.std.specs.Prelude.{◌≤◌, ◌+◌, ◌++◌, length};
 ghost use Rattle.rpki_cli.specs.Answer.{said};
@@ -61,10 +61,7 @@ fn walk_files<'a>(
         [object, verdicts, anchor, others @ ..] => match Verdicts::read(verdicts) {
             None => Answer::BadVerdicts,
             Some(verdicts) => {
-                let causes = Causes::Omitted;
-                walk_with(
-                    alloc, causes, options, tail, object, anchor, others, &verdicts, now,
-                )
+                walk_with(alloc, options, tail, object, anchor, others, &verdicts, now)
             }
         },
         _ => unreachable!(),
@@ -74,9 +71,8 @@ fn walk_files<'a>(
 /// Answers whether the octets begin with a good manifest under the issuer that certificates make,
 /// at this moment, and which of its entries files at hand hold. The certificates are that of the
 /// trust anchor and the first of the other files; the files at hand are those after these.
-pub fn walk_with<'a, K: Crypto>(
+fn walk_with<'a, K: Crypto>(
     alloc: Global,
-    causes: Causes,
     options: Options,
     tail: &[&str],
     object: &Bytes,
@@ -86,14 +82,14 @@ pub fn walk_with<'a, K: Crypto>(
     now: Time,
 ) -> Answer<'a>
     requires { length (chain_in (texts tail.now)) ≤ length others.now }
-    ensures { IsWalkedWith causes options (K.digest_of crypto.now) (K.is_signed crypto.now) now
+    ensures { IsWalkedWith options (K.digest_of crypto.now) (K.is_signed crypto.now) now
         (texts tail.now) object.now anchor.now others.now (said result) }
 {
     let (certs, hand) = cut_others(tail, others);
     match issuer_at(alloc, anchor, certs, crypto, now) {
         Err(error) => refused_issuer(alloc, error),
         Ok(issuer) => {
-            let answer = walk_under(alloc, causes, options, &hand, object, &issuer, crypto, now);
+            let answer = walk_under(alloc, options, &hand, object, &issuer, crypto, now);
             drop(issuer);
             answer
         }
@@ -104,7 +100,6 @@ pub fn walk_with<'a, K: Crypto>(
 /// which of its entries the files hold.
 fn walk_under<'a, K: Crypto>(
     alloc: Global,
-    causes: Causes,
     options: Options,
     hand: &Hand<'_>,
     object: &Bytes,
@@ -112,7 +107,7 @@ fn walk_under<'a, K: Crypto>(
     crypto: &K,
     now: Time,
 ) -> Answer<'a>
-    ensures { WalkedUnder causes options (K.digest_of crypto.now) (K.is_signed crypto.now)
+    ensures { WalkedUnder options (K.digest_of crypto.now) (K.is_signed crypto.now)
         issuer.now now hand.now object.now (said result) }
 {
     match object.clone() {
@@ -121,7 +116,7 @@ fn walk_under<'a, K: Crypto>(
             let checked = check_passed::<ManifestContent, K, _>(
                 alloc, options, source, issuer, crypto, now, pass,
             );
-            answer_walked(alloc, causes, checked, hand, crypto)
+            answer_walked(alloc, checked, hand, crypto)
         }
     }
 }
@@ -129,16 +124,15 @@ fn walk_under<'a, K: Crypto>(
 /// What is said of what a check answers.
 fn answer_walked<'a, K: Crypto>(
     alloc: Global,
-    causes: Causes,
     checked: Result<(ResourceCert, ManifestContent), CheckError>,
     hand: &Hand<'_>,
     crypto: &K,
 ) -> Answer<'a>
-    ensures { IsCheckSaid causes (held_text (K.digest_of crypto.now) hand.now) checked
+    ensures { IsCheckSaid (held_text (K.digest_of crypto.now) hand.now) checked
         (said result) }
 {
     match checked {
-        Err(CheckError::Decode(error)) => refusal(alloc, causes, error),
+        Err(CheckError::Decode(error)) => refusal(alloc, Causes::Omitted, error),
         Err(CheckError::Validation(error)) => refused(alloc, error),
         Ok((cert, content)) => {
             drop(cert);

@@ -1,11 +1,17 @@
-pub mod Characters
+pub mod Apart
+pub mod Applied
 pub mod Counted
-pub mod Fields
-pub mod Further
-pub mod Grouped
-pub mod Objects
-pub mod Plain
-pub mod Tables
-pub mod Values
+pub mod Elements
+pub mod Formatted
+pub mod Gathered
+pub mod Joined
+pub mod Once
+pub mod Recorded
+pub mod Rowed
+pub mod Saying
+pub mod Spaced
+pub mod Spoken
+pub mod Tabled
+pub mod Written
 mod Locating
 mod Reporting

@@ -1,10 +1,10 @@
+pub mod Formats
 pub mod Found
-pub mod Grammar
-pub mod Payloads
-pub mod Said
-pub mod Seconds
-pub mod Texts
 pub mod Locators
 pub mod Outcomes
 pub mod Party
+pub mod Printed
 pub mod Report
+pub mod Seconds
+pub mod Slurm
+pub mod Texts

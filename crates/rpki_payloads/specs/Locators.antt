@@ -1,5 +1,6 @@
 -- Trust anchor locators in files.
 use Rattle.std.specs.Prelude.{◌≡◌, ℕ, List, ◌∷◌, ◌++◌, All, Result, Ok, Err, Vec}
+use Rattle.std.specs.Borrow.{Bor}
 use Rattle.std.specs.List.{AllZip}
 use Rattle.std.specs.declared.alloc.Global.{Global}
 use Rattle.rpki_tal.specs.Form.{IsNoTal, IsOnlyTal}
@@ -13,7 +14,7 @@ use Rattle.rpki_payloads.specs.declared.locators.LocatorFault.TheVariants.{Bad, 
 
 -- a file: the word that names it, and its octets
 abbrev pub File : Type 0
-File = List ℕ × List ℕ
+File = Bor (List ℕ) × List ℕ
 
 -- the file is the text of this locator and of no other (RFC 8630, section 2.2)
 abbrev pub IsLocator : File → Locator → Type 0
@@ -22,19 +23,20 @@ IsLocator file tal = IsOnlyTal file.1 tal.uris tal.key
 -- The first of the files that is no locator is the one of this word.
 pub record IsFirstBad (files : List File) (word : List ℕ) : Type 0 where
   pub before : List File
-  pub octets : List ℕ
+  pub file : File
   pub after : List File
-  pub cut : files ≡ before ++ (word, octets) ∷ after
+  pub cut : files ≡ before ++ file ∷ after
   pub locators : All (λ f. (tal : Locator) × IsLocator f tal) before
-  pub bad : IsNoTal octets
+  pub named : word ≡ file.0.now
+  pub bad : IsNoTal file.1
 
 -- what is read of a file that is a locator
 abbrev pub IsNamedLocator : File → NamedLocator → Type 0
-IsNamedLocator file l = (l.name.now ≡ locator_name file.0) × IsLocator file l.locator
+IsNamedLocator file l = (l.name.now ≡ locator_name file.0.now) × IsLocator file l.locator
 
 -- why a file is no locator
 abbrev pub IsNoLocator : File → LocatorFault → Type 0
-IsNoLocator file (Bad word) = (word.now ≡ file.0) × IsNoTal file.1
+IsNoLocator file (Bad word) = (word.now ≡ file.0.now) × IsNoTal file.1
 IsNoLocator file Memory = Unit {0}
 
 -- the fault of a file that this word names, where it is refused so as a locator: want of memory is

@@ -1,9 +1,7 @@
 -- What a validation run under a locator comes to.
 use Rattle.std.specs.Prelude.{◌≡◌, ℕ, List, Result, Ok, Err}
-use Rattle.rpki_cli.specs.declared.verify.relying_party.PayloadsRequest.{PayloadsRequest}
 use Rattle.rpki_tal.specs.Tal.{Locator}
 use Rattle.rpki_relying_party.specs.Found.{Lists}
-use Rattle.rpki_relying_party.specs.Names.{locator_name}
 use Rattle.rpki_relying_party.specs.Runs.{FindsAllUnder, IsLeftRefusal, IsRunUnder, IsSaidUnder}
 use Rattle.rpki_relying_party.specs.Runs.{KeepsAll, TellsSteadily, WhyNoRun}
 use Rattle.rpki_relying_party.specs.Setting.{Setting}
@@ -12,7 +10,6 @@ use Rattle.rpki_relying_party.specs.declared.found.Finding.{Finding}
 use Rattle.rpki_relying_party.specs.declared.found.Found.{Found}
 use Rattle.rpki_relying_party.specs.declared.locator.RunFault.{RunFault}
 use Rattle.rpki_relying_party.specs.declared.place.Place.{Place}
-use Rattle.rpki_payloads.specs.Locators.{File, IsLocator}
 use Rattle.rpki_payloads.specs.Party.{Party, setting_of}
 
 -- what is found, or why there is no run
@@ -46,12 +43,7 @@ IsOutcome s tal limit (Err fault) = WhyNoRun s tal limit fault
 abbrev pub IsNamedOutcome : Setting → List ℕ → Locator → ℕ → AnchorOutcome → Type 0
 IsNamedOutcome s name tal limit a = (a.name ≡ name) × IsOutcome s tal limit a.outcome
 
--- what the run for a request comes to under the locator with this name
-abbrev pub IsOutcomeUnder : Party → PayloadsRequest → List ℕ → Locator → AnchorOutcome → Type 0
-IsOutcomeUnder party request name tal a =
-    IsNamedOutcome (setting_of party request name) name tal party.limit a
-
--- what the run for a request comes to under the locator that this file is
-abbrev pub IsOutcomeOf : Party → PayloadsRequest → File → AnchorOutcome → Type 0
-IsOutcomeOf party request file a = (tal : Locator) × IsLocator file tal
-    × IsOutcomeUnder party request (locator_name file.0) tal a
+-- what the run comes to under the locator with this name
+abbrev pub IsOutcomeUnder : Party → List ℕ → Locator → AnchorOutcome → Type 0
+IsOutcomeUnder party name tal a =
+    IsNamedOutcome (setting_of party name) name tal party.limit a

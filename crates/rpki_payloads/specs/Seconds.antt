@@ -1,15 +1,20 @@
 -- Counts of seconds since 1970.
-use Rattle.std.specs.Prelude.{ℕ, ℤ, pos, negsuc}
+use Rattle.std.specs.Prelude.{ℕ, ℤ, pos, negsuc, ◌+◌, ◌*◌, ◌+ℤ◌, ◌*ℤ◌}
+use Rattle.jiff_core.specs.Calendar.{days_from_civil}
 use Rattle.rpki_basics.specs.Moment.{Moment}
-use Rattle.rpki_cli.specs.Verify.Clock.{seconds_to}
+
+-- How many seconds after 1970-01-01T00:00:00Z a moment begins, where each day has 86400 of them
+-- (POSIX.1-2017, Base Definitions, section 4.16), by the Gregorian calendar.
+abbrev pub seconds_to : Moment → ℤ
+seconds_to m = days_from_civil (pos m.year) m.month m.day *ℤ pos 86400
+    +ℤ pos (m.hour * 3600 + m.minute * 60 + m.second)
 
 -- the number, and 0 for a negative one
 abbrev pub from_zero : ℤ → ℕ
 from_zero (pos n) = n
 from_zero (negsuc n) = 0
 
--- How many seconds after 1970-01-01T00:00:00Z a moment begins, where each day has 86400 of them
--- (POSIX.1-2017, Base Definitions, section 4.16). Of moments before, that section says nothing:
--- here they have the count 0.
+-- The same as a number, where moments before 1970, of which that section says nothing, have the
+-- count 0.
 abbrev pub seconds_since : Moment → ℕ
 seconds_since m = from_zero (seconds_to m)

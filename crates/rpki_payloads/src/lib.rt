@@ -1,15 +1,10 @@
-//! What validation runs find, as text: payloads as plain lines, as CSV or as JSON, and refusals as
-//! lines; and a relying party that finds payloads in a folder, and reports them.
+//! The payloads that validation runs find in a copy of the repositories, after local exceptions, in
+//! seven formats; and what is refused, as lines.
 #![tactic(auto)]
 
-mod aspas;
-mod csv;
-mod escaped;
-mod format;
+pub mod formats;
 mod found;
-mod json;
 pub mod laws;
-mod lines;
 mod locators;
 mod numbers;
 mod outcome;
@@ -17,14 +12,10 @@ mod party;
 mod refusals;
 mod report;
 mod seconds;
+pub mod slurm;
 
-pub use csv::push_csv;
-pub use escaped::CsvField;
-pub use format::push_payloads;
 pub use found::AnchorFindings;
-pub use json::push_json;
-pub use lines::push_lines;
-pub use party::FolderParty;
+pub use locators::{LocatorFault, NamedLocator, locators_in};
+pub use party::{FolderParty, MOST_WORK};
 pub use refusals::push_refusals;
-pub use rpki_cli::verify::words::Format;
-pub use seconds::seconds_of;
+pub use report::{PayloadsReport, report_payloads};

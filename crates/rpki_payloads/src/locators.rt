@@ -1,8 +1,6 @@
 //! Trust anchor locators in files.
 
 ghost use Rattle.std.specs.Prelude.{MatchResult};
-ghost use Rattle.std.specs.List.{zip};
-ghost use Rattle.rpki_cli.specs.Words.{texts};
 ghost use Rattle.rpki_payloads.specs.Locators.{AreLocators, IsNamedLocator, IsNoLocator, IsFaultOf};
 
 use bytes::Bytes;
@@ -11,16 +9,16 @@ use rpki_show::locator_of;
 use rpki_tal::{ReadError, Tal};
 use std::alloc::Global;
 
-/// A locator, and its name.
+/// A locator, and its name: that of its file, without the folders and `.tal`.
 #[derive(Drop)]
-pub(crate) struct NamedLocator<'a> {
+pub struct NamedLocator<'a> {
     pub name: &'a str,
     pub locator: Tal,
 }
 
 /// Why files are not all locators.
 #[derive(Drop)]
-pub(crate) enum LocatorFault<'a> {
+pub enum LocatorFault<'a> {
     /// This one is none.
     Bad(&'a str),
     /// No memory was to be had.
@@ -33,8 +31,8 @@ fn locate<'a>(
     word: &'a str,
     octets: &[u8],
 ) -> Result<NamedLocator<'a>, LocatorFault<'a>>
-    ensures { MatchResult result (IsNamedLocator (word.now, octets.now))
-        (IsNoLocator (word.now, octets.now)) }
+    ensures { MatchResult result (IsNamedLocator (word.entry, octets.now))
+        (IsNoLocator (word.entry, octets.now)) }
 {
     match locator_of(alloc, octets) {
         Ok(locator) => Ok(NamedLocator {
@@ -59,16 +57,15 @@ fn fault_of<'a>(error: ReadError, word: &'a str) -> LocatorFault<'a>
     }
 }
 
-/// The locators in these files, which these words name. Refuses by the first that is none.
-pub(crate) fn locators_in<'a>(
+/// The locators in these files, each with the word that names it. Refuses by the first that is none.
+pub fn locators_in<'a>(
     alloc: Global,
-    words: &[&'a str],
-    files: &[Bytes],
+    files: &[(&'a str, Bytes)],
 ) -> Result<Vec<NamedLocator<'a>>, LocatorFault<'a>>
-    ensures { AreLocators (zip (texts words.now) files.now) result }
+    ensures { AreLocators files.now result }
 {
     let mut locators = Vec::new(alloc);
-    for (word, octets) in words.iter().zip(files.iter()) {
+    for (word, octets) in files {
         match locate(alloc, word, octets) {
             Err(fault) => return Err(fault),
             Ok(one) => {

@@ -1,20 +1,21 @@
 //! What is reported of validation runs under locators.
 
-ghost use Rattle.std.specs.Prelude.{◌≡◌, ◌⊎◌, ◌++◌, IfOk};
-ghost use Rattle.std.specs.String.{string_bytes};
-ghost use Rattle.rpki_cli.specs.Answer.{out_of_memory, said};
-ghost use Rattle.rpki_payloads.specs.Texts.{payloads_text};
+ghost use Rattle.std.specs.Prelude.{◌≡◌, ◌++◌, IfOk, string_bytes};
+ghost use Rattle.rpki_payloads.specs.Formats.{IsPayloadsText};
 ghost use Rattle.rpki_payloads.specs.Texts.Refusals.{refusals_text};
-ghost use Rattle.rpki_payloads.specs.Report.{report_of, found_in, faults_text, refused_text};
+ghost use Rattle.rpki_payloads.specs.Report.{IsReport, IsReportOf, found_in, faults_text};
 ghost use Rattle.rpki_payloads.specs.Report.{status_of};
+ghost use Rattle.rpki_payloads.specs.Party.{party_of};
 
-use crate::format::push_payloads;
+use crate::formats::{PayloadFormat, push_payloads};
 use crate::found::AnchorFindings;
+use crate::locators::NamedLocator;
 use crate::outcome::AnchorOutcome;
+use crate::party::{FolderParty, run_all};
 use crate::refusals::push_refusals;
-use rpki_basics::Time;
-use rpki_cli::answer::Answer;
-use rpki_cli::verify::words::Format;
+use crate::slurm::Exceptions;
+use rpki_basics::{Crypto, Time};
+use rpki_relying_party::Folders;
 use std::alloc::{AllocError, Global};
 
 /// The exit status where each locator has a run.
@@ -23,25 +24,53 @@ const ANSWERED: u8 = 0;
 /// The exit status where one has none.
 const REFUSED: u8 = 1;
 
-/// Reports what validation runs came to, in their order: payloads in this format, as of this
-/// moment, and what is refused.
-pub(crate) fn report_outcomes<'a>(
+/// What is reported of runs under locators.
+#[derive(Debug, Drop)]
+pub struct PayloadsReport {
+    /// The payloads, for standard output.
+    pub out: String,
+    /// What is refused, a line for each, for standard error.
+    pub err: String,
+    /// The exit status: 0 where each locator has a run, else 1.
+    pub status: u8,
+}
+
+/// Reports what the runs under these locators find, in this format and after these local
+/// exceptions. Refuses where memory runs out.
+pub fn report_payloads<F: Folders, C: Crypto>(
     alloc: Global,
-    format: Format,
-    moment: Time,
-    outcomes: &[AnchorOutcome<'_>],
-) -> Answer<'a>
-    ensures { (said result ≡ out_of_memory)
-        ⊎ (said result ≡ report_of format moment outcomes.now) }
+    party: &FolderParty<'_, F, C>,
+    locators: &[NamedLocator<'_>],
+    format: PayloadFormat,
+    exceptions: &[Exceptions],
+) -> Result<PayloadsReport, AllocError>
+    ensures { IfOk result (IsReport (party_of F.finds C.digest_of C.is_signed party.now)
+        locators.now format exceptions.now) }
 {
-    match texts_of(alloc, format, moment, outcomes) {
-        Err(_) => Answer::OutOfMemory,
-        Ok((out, err)) => Answer::Reported {
-            out,
-            err,
-            status: status_of(outcomes),
-        },
-    }
+    let outcomes = run_all(alloc, party, locators)?;
+    let report = report_outcomes(alloc, &outcomes, party.moment, format, exceptions);
+    drop(outcomes);
+    report
+}
+
+// Reports what runs came to, in their order.
+fn report_outcomes(
+    alloc: Global,
+    outcomes: &[AnchorOutcome<'_>],
+    moment: Time,
+    format: PayloadFormat,
+    exceptions: &[Exceptions],
+) -> Result<PayloadsReport, AllocError>
+    ensures { IfOk result (IsReportOf exceptions.now format moment outcomes.now) }
+{
+    let found = found_in(alloc, outcomes)?;
+    let out = payloads_of(alloc, &found, moment, format, exceptions)?;
+    let err = refused_of(alloc, outcomes, &found)?;
+    Ok(PayloadsReport {
+        out,
+        err,
+        status: status_of(outcomes),
+    })
 }
 
 // The exit status.
@@ -53,23 +82,6 @@ fn status_of(outcomes: &[AnchorOutcome<'_>]) -> u8
     } else {
         REFUSED
     }
-}
-
-// The payloads that were found, and what is refused.
-fn texts_of(
-    alloc: Global,
-    format: Format,
-    moment: Time,
-    outcomes: &[AnchorOutcome<'_>],
-) -> Result<(String, String), AllocError>
-    ensures out { IfOk result (λ texts.
-        string_bytes texts.0 ≡ payloads_text format moment (found_in outcomes.now)) }
-    ensures err { IfOk result (λ texts. string_bytes texts.1 ≡ refused_text outcomes.now) }
-{
-    let found = found_in(alloc, outcomes)?;
-    let payloads = payloads_of(alloc, format, moment, &found)?;
-    let refused = refused_of(alloc, outcomes, &found)?;
-    Ok((payloads, refused))
 }
 
 // What was found under the locators that have a run.
@@ -88,14 +100,16 @@ fn found_in<'p>(
 // Payloads as text.
 fn payloads_of(
     alloc: Global,
-    format: Format,
-    moment: Time,
     found: &[AnchorFindings<'_>],
+    moment: Time,
+    format: PayloadFormat,
+    exceptions: &[Exceptions],
 ) -> Result<String, AllocError>
-    ensures { IfOk result (λ text. string_bytes text ≡ payloads_text format moment found.now) }
+    ensures { IfOk result (λ text.
+        IsPayloadsText exceptions.now format moment found.now (string_bytes text)) }
 {
     let mut text = String::new(alloc);
-    push_payloads(&mut text, format, moment, found)?;
+    push_payloads(alloc, &mut text, format, moment, found, exceptions)?;
     Ok(text)
 }
 

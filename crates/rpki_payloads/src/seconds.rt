@@ -9,7 +9,7 @@ use rpki_basics::Time;
 const SECONDS_A_DAY: u64 = 86_400;
 
 /// How many seconds after 1970 began a moment begins, in UTC; 0 for a moment before.
-pub fn seconds_of(time: Time) -> u64
+pub(crate) fn seconds_of(time: Time) -> u64
     ensures { result ≡ seconds_since time }
 {
     let stamp = time.stamp();

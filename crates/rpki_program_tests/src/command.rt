@@ -1,5 +1,5 @@
-//! Tests of `rpki_cli`, `rpki_show`, `rpki_command` and `rpki_verdicts`: tables of runs, which
-//! `rows` walks.
+//! Tests of `rpki_cli`, `rpki_show`, `rpki_command`, `rpki_program` and `rpki_verdicts`: tables of
+//! runs, which `rows` walks.
 //!
 //! The expected values follow from the profile by hand, or are those of other programs. A test
 //! hands on that memory ran out and asserts everything else, so `tools/growth` can refuse each of
@@ -18,7 +18,6 @@ mod issued;
 mod issued_octets;
 mod objects;
 mod octets;
-mod payloads;
 mod rows;
 mod shown;
 mod signed;

@@ -1,8 +1,7 @@
-//! Tests of the programs: of `rpki_cli`, `rpki_show` and `rpki_command` in the module `command`,
-//! and in `cli` of what `rpki_cli` reads of a command line.
+//! Tests of the programs: of their runs in the module `command`, and in `program` of what words say.
 #![tactic(auto)]
 
 #[cfg(test)]
-mod cli;
-#[cfg(test)]
 mod command;
+#[cfg(test)]
+mod program;

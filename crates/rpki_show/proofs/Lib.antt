@@ -3,8 +3,6 @@ pub mod Dates
 pub mod Grown
 pub mod Lists
 pub mod Located
-pub mod Members
 pub mod Printed
 pub mod Serials
 pub mod Shown
-pub mod Words

@@ -10,17 +10,14 @@ use Rattle.rpki_sigobj.specs.Signed.{ObjectForm}
 use Rattle.rpki_cli.specs.Answer.{Output, out_of_memory}
 use Rattle.rpki_cli.specs.Shown.{IsLinesOf, IsShown}
 use Rattle.rpki_cli.specs.Refusal.{IsMalformed, IsRefusal}
-use Rattle.rpki_cli.specs.Words.{kind_word}
 use Rattle.rpki_cli.specs.declared.causes.Causes.{Causes}
 use Rattle.rpki_cli.specs.declared.causes.Causes.TheVariants.{Omitted, Included}
 use Rattle.rpki_cli.specs.declared.words.Kind.{Kind}
 use Rattle.rpki_cli.specs.declared.words.Kind.TheVariants.{Aspa}
 use Rattle.rpki_cli.specs.declared.words.Options.{Options}
 use Rattle.rpki_show.specs.Contents.{HasLines, LinesOf}
-use Rattle.rpki_show.specs.Json.File.{file_json}
-use Rattle.rpki_show.specs.Json.Object.{object_members}
-use Rattle.rpki_show.specs.Kinds.{OfKind, OfKindIn, JsonOfKind}
-use Rattle.rpki_show.specs.Objects.{ObjectLinesOf, ObjectJsonOf, WholeObjectLinesOf}
+use Rattle.rpki_show.specs.Kinds.{OfKind, OfKindIn}
+use Rattle.rpki_show.specs.Objects.{ObjectLinesOf, WholeObjectLinesOf}
 use Rattle.rpki_show.specs.Options.{read_mode}
 use Rattle.rpki_show.specs.Texts.Object.{object_text, whole_text}
 use Rattle.rpki_show.specs.declared.texts.serial.Hexadecimal.TheVariants.{Plain, Octets}
@@ -81,12 +78,3 @@ pub whole_of_kind : (causes : Causes) (options : Options) (kind : Kind) (octets 
     → IsShown causes (WholeObjectLinesOf options kind) octets s
 whole_of_kind causes options Aspa octets s h = h
 whole_of_kind causes options other octets s h = h
-
-pub json_of_kind : (causes : Causes) (options : Options) (kind : Kind) (name word : List ℕ)
-    → word ≡ kind_word kind → (octets : List ℕ) (s : Output)
-    → JsonOfKind options kind (λ X asked form members. IsShown causes (HasLines
-    (ObjectForm asked.type form (read_mode options))
-    (λ o. file_json name word (object_members members o))) octets s)
-    → IsShown causes (ObjectJsonOf options kind name) octets s
-json_of_kind causes options Aspa name word e octets s h = rw e at h
-json_of_kind causes options other name word e octets s h = rw e at h

@@ -1,12 +1,10 @@
 -- What is said of an attestation that is shown (draft-michaelson-rpki-rta).
-use Rattle.std.specs.Prelude.{ℕ, List, codes}
+use Rattle.std.specs.Prelude.{ℕ, List}
 use Rattle.rpki_der.specs.declared.mode.Mode.TheVariants.{Der}
 use Rattle.rpki_tagged.specs.Attestation.{AttestationForm}
 use Rattle.rpki_multi.specs.Attestation.{RtaForm}
 use Rattle.rpki_show.specs.Contents.{HasLines}
 use Rattle.rpki_show.specs.DatedRta.{DatedRtaForm}
-use Rattle.rpki_show.specs.Json.File.{file_json}
-use Rattle.rpki_show.specs.Json.Rta.{rta_members}
 use Rattle.rpki_show.specs.Texts.Rta.{attestation_text, rta_text, whole_rta_text}
 
 -- The lines of the content of an attestation at the front of the octets, in DER.
@@ -21,7 +19,3 @@ RtaLines = HasLines (RtaForm Der) rta_text
 -- carries.
 abbrev pub WholeRtaLines : List ℕ → List ℕ → Type 0
 WholeRtaLines = HasLines (DatedRtaForm Der) whole_rta_text
-
--- The line in JSON of an attestation at the front of the octets of a file of this name, in DER.
-abbrev pub RtaJson : List ℕ → List ℕ → List ℕ → Type 0
-RtaJson name = HasLines (DatedRtaForm Der) (λ r. file_json name (codes "rta") (rta_members r))

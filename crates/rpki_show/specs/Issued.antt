@@ -1,12 +1,9 @@
 -- What is said of a certificate and of a revocation list that are shown.
-use Rattle.std.specs.Prelude.{ℕ, List, codes}
+use Rattle.std.specs.Prelude.{ℕ, List}
 use Rattle.rpki_certs.specs.Cert.{CertForm}
 use Rattle.rpki_der.specs.declared.mode.Mode.TheVariants.{Der}
 use Rattle.rpki_show.specs.Contents.{HasLines}
 use Rattle.rpki_show.specs.Dated.{DatedForm}
-use Rattle.rpki_show.specs.Json.Certificate.{certificate_members}
-use Rattle.rpki_show.specs.Json.Crl.{crl_members}
-use Rattle.rpki_show.specs.Json.File.{file_json}
 use Rattle.rpki_show.specs.Texts.Certificate.{certificate_text}
 use Rattle.rpki_show.specs.Texts.Crl.{crl_text}
 
@@ -17,12 +14,3 @@ CertificateLines = HasLines (CertForm Der) certificate_text
 -- The lines of a revocation list at the front of the octets, in DER (RFC 6487, section 5).
 abbrev pub CrlLines : List ℕ → List ℕ → Type 0
 CrlLines = HasLines (DatedForm Der) crl_text
-
--- The line in JSON of a certificate at the front of the octets of a file of this name, in DER.
-abbrev pub CertificateJson : List ℕ → List ℕ → List ℕ → Type 0
-CertificateJson name = HasLines (CertForm Der)
-    (λ c. file_json name (codes "certificate") (certificate_members c))
-
--- The line in JSON of a revocation list at the front of the octets of a file of this name, in DER.
-abbrev pub CrlJson : List ℕ → List ℕ → List ℕ → Type 0
-CrlJson name = HasLines (DatedForm Der) (λ l. file_json name (codes "crl") (crl_members l))

@@ -5,7 +5,6 @@ pub mod DatedRta
 pub mod Grows
 pub mod Ia5
 pub mod Issued
-pub mod Json
 pub mod Kinds
 pub mod Locator
 pub mod Objects

@@ -1,13 +1,10 @@
 -- What is shown of a signed object, by its kind.
 use Rattle.std.specs.Prelude.{ℕ, List}
 use Rattle.rpki_sigobj.specs.Signed.{ObjectForm}
-use Rattle.rpki_cli.specs.Words.{kind_word}
 use Rattle.rpki_cli.specs.declared.words.Kind.{Kind}
 use Rattle.rpki_cli.specs.declared.words.Options.{Options}
 use Rattle.rpki_show.specs.Contents.{HasLines}
-use Rattle.rpki_show.specs.Json.File.{file_json}
-use Rattle.rpki_show.specs.Json.Object.{object_members}
-use Rattle.rpki_show.specs.Kinds.{OfKind, OfKindIn, JsonOfKind}
+use Rattle.rpki_show.specs.Kinds.{OfKind, OfKindIn}
 use Rattle.rpki_show.specs.Options.{read_mode}
 use Rattle.rpki_show.specs.Texts.Object.{object_text, whole_text}
 use Rattle.rpki_show.specs.declared.texts.serial.Hexadecimal.TheVariants.{Plain, Octets}
@@ -23,10 +20,3 @@ ObjectLinesOf options kind = OfKind options kind (λ X asked form text.
 abbrev pub WholeObjectLinesOf : Options → Kind → List ℕ → List ℕ → Type 0
 WholeObjectLinesOf options kind = OfKindIn Octets options kind (λ X asked form text.
     HasLines (ObjectForm asked.type form (read_mode options)) (whole_text text))
-
--- The line in JSON of a signed object of a kind at the front of the octets, with these options, in
--- a file of this name.
-abbrev pub ObjectJsonOf : Options → Kind → List ℕ → List ℕ → List ℕ → Type 0
-ObjectJsonOf options kind name = JsonOfKind options kind (λ X asked form members.
-    HasLines (ObjectForm asked.type form (read_mode options))
-    (λ o. file_json name (kind_word kind) (object_members members o)))

@@ -1,16 +1,15 @@
-//! The members of each kind of file, as objects of JSON (RFC 8259).
+//! What is shown of a file in JSON (RFC 8259): the members of an object for each kind, whose values
+//! nest at most four deep.
 
-pub mod arrays;
 pub mod aspa;
+pub mod attestation;
 pub mod blocks;
 pub mod certificate;
+pub mod checklist;
 pub mod crl;
-pub mod file;
+pub mod locator;
 pub mod manifest;
-pub mod named;
 pub mod object;
-pub mod outcome;
 pub mod roa;
-pub mod rsc;
-pub mod rta;
-pub mod tal;
+pub mod unshown;
+pub mod values;

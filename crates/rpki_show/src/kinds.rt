@@ -1,17 +1,11 @@
 //! The table of the kinds, and what each kind brings.
 
 ghost use Rattle.std.specs.Prelude.{◌≡◌, ℕ, List};
-ghost use Rattle.std.specs.List.{flat_map};
 ghost use Rattle.rpki_sigobj.specs.Signed.Kind as signed;
 ghost use Rattle.rpki_cli.specs.Answer.{Output, said};
 ghost use Rattle.rpki_cli.specs.Options.{provider_limit, manifest_rule};
 ghost use Rattle.rpki_cli.specs.declared.words.Options.{Options};
 ghost use Rattle.rpki_show.specs.Grows.{Grows};
-ghost use Rattle.rpki_json.specs.Members.{Member, further_text};
-ghost use Rattle.rpki_show.specs.Json.Aspa.{aspa_members};
-ghost use Rattle.rpki_show.specs.Json.Manifest.{manifest_members};
-ghost use Rattle.rpki_show.specs.Json.Roa.{roa_members};
-ghost use Rattle.rpki_show.specs.Json.Rsc.{rsc_members};
 ghost use Rattle.rpki_show.specs.Kinds.{OfKindIn};
 ghost use Rattle.rpki_show.specs.Texts.Aspa.{aspa_text};
 ghost use Rattle.rpki_show.specs.Texts.Manifest.{manifest_text};
@@ -20,7 +14,11 @@ ghost use Rattle.rpki_show.specs.Texts.Rsc.{rsc_text};
 ghost use Rattle.rpki_show.specs.declared.texts.serial.Hexadecimal.{Hexadecimal};
 ghost use Rattle.rpki_show.specs.declared.texts.serial.Hexadecimal.TheVariants.{Plain};
 
-use crate::json::{aspa, manifest, roa, rsc};
+use crate::json::aspa::put_aspa;
+use crate::json::checklist::put_checklist;
+use crate::json::manifest::put_manifest;
+use crate::json::roa::put_roa;
+use crate::json::values::Members;
 use crate::texts::aspa::push_aspa;
 use crate::texts::manifest::push_manifest;
 use crate::texts::roa::push_roa;
@@ -46,18 +44,13 @@ pub trait Lines: Content {
     fn rule(options: Options) -> Self::Rule
         ensures { result ≡ rule_of options };
 
-    // Its members in JSON.
-    ghost json: { Self → List Member };
-
     /// Appends its lines, with numbers in hexadecimal written so. Where memory runs out, nothing is
     /// promised of the text.
     fn push(&self, alloc: Global, text: &mut String, way: Hexadecimal) -> Result<(), AllocError>
         ensures { Grows result text.old text.new (lines way self.now) };
 
-    /// Appends its members, after others, to an object of JSON. Where memory runs out, nothing is
-    /// promised of the text.
-    fn push_json(&self, alloc: Global, text: &mut String) -> Result<(), AllocError>
-        ensures { Grows result text.old text.new (flat_map further_text (json self.now)) };
+    /// Puts its members in JSON.
+    fn put_members(&self, alloc: Global, members: &mut Members) -> Result<(), AllocError>;
 }
 
 /// What is answered in the same way for each kind.
@@ -99,8 +92,6 @@ impl Lines for AsProviderAttestation {
 
     ghost lines = { λ _. aspa_text };
 
-    ghost json = { aspa_members };
-
     fn rule(options: Options) -> ProviderLimit {
         options.provider_limit()
     }
@@ -109,8 +100,8 @@ impl Lines for AsProviderAttestation {
         push_aspa(text, self)
     }
 
-    fn push_json(&self, alloc: Global, text: &mut String) -> Result<(), AllocError> {
-        aspa::push_aspa(alloc, text, self)
+    fn put_members(&self, alloc: Global, members: &mut Members) -> Result<(), AllocError> {
+        put_aspa(alloc, members, self)
     }
 }
 
@@ -118,8 +109,6 @@ impl Lines for ManifestContent {
     ghost rule_of = { manifest_rule };
 
     ghost lines = { manifest_text };
-
-    ghost json = { manifest_members };
 
     fn rule(options: Options) -> ManifestRule {
         options.manifest_rule()
@@ -129,8 +118,8 @@ impl Lines for ManifestContent {
         push_manifest(alloc, text, way, self)
     }
 
-    fn push_json(&self, alloc: Global, text: &mut String) -> Result<(), AllocError> {
-        manifest::push_manifest(alloc, text, self)
+    fn put_members(&self, alloc: Global, members: &mut Members) -> Result<(), AllocError> {
+        put_manifest(alloc, members, self)
     }
 }
 
@@ -139,16 +128,14 @@ impl Lines for RouteOriginAttestation {
 
     ghost lines = { λ _. roa_text };
 
-    ghost json = { roa_members };
-
     fn rule(_options: Options) {}
 
     fn push(&self, _: Global, text: &mut String, _: Hexadecimal) -> Result<(), AllocError> {
         push_roa(text, self)
     }
 
-    fn push_json(&self, alloc: Global, text: &mut String) -> Result<(), AllocError> {
-        roa::push_roa(alloc, text, self)
+    fn put_members(&self, alloc: Global, members: &mut Members) -> Result<(), AllocError> {
+        put_roa(alloc, members, self)
     }
 }
 
@@ -157,15 +144,13 @@ impl Lines for ResourceSignedChecklist {
 
     ghost lines = { λ _. rsc_text };
 
-    ghost json = { rsc_members };
-
     fn rule(_options: Options) {}
 
     fn push(&self, _: Global, text: &mut String, _: Hexadecimal) -> Result<(), AllocError> {
         push_rsc(text, self)
     }
 
-    fn push_json(&self, alloc: Global, text: &mut String) -> Result<(), AllocError> {
-        rsc::push_rsc(alloc, text, self)
+    fn put_members(&self, alloc: Global, members: &mut Members) -> Result<(), AllocError> {
+        put_checklist(alloc, members, self)
     }
 }

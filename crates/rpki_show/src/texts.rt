@@ -12,6 +12,5 @@ pub mod object;
 pub mod roa;
 pub mod rsc;
 pub mod rta;
-pub mod separated;
 pub mod serial;
 pub mod tal;

@@ -60,41 +60,42 @@ const CARRIED_SHOWN: Said = Said::Yes(
 
 /// The same in JSON.
 const CARRIED_IN_JSON: Said = Said::Yes(
-    "{\"file\": \"whole.rta\", \"type\": \"rta\", \"keys\": [], \"asns\": [], \"ipv4\": [], \
-     \"ipv6\": [], \"digest\": \
-     \"0000000000000000000000000000000000000000000000000000000000000000\", \
-     \"certificates\": [{\"cert_serial\": \"03\", \
-     \"valid_since\": \"2024-01-01T00:00:00Z\", \"valid_until\": \"2034-12-31T23:59:59Z\", \
-     \"ski\": \"461D6580E38CCB6DC72699B6C945E53831DCDF03\", \
-     \"aki\": \"07AAE1B618F604C684EE3189FA1723BEF8656FE4\", \"ca\": false}, \
-     {\"cert_serial\": \"02\", \
-     \"valid_since\": \"2024-01-01T00:00:00Z\", \"valid_until\": \"2034-12-31T23:59:59Z\", \
-     \"ski\": \"07AAE1B618F604C684EE3189FA1723BEF8656FE4\", \
-     \"aki\": \"CB473678976F425D6EC1339838F11011007AD27D\", \"ca\": true}], \
-     \"crls\": [{\"crl_serial\": \"0C\", \
-     \"valid_since\": \"2024-01-01T00:00:00Z\", \"valid_until\": \"2024-01-08T00:00:00Z\", \
-     \"aki\": \"07AAE1B618F604C684EE3189FA1723BEF8656FE4\", \
-     \"revoked_certs\": [{\"serial\": \"04\", \"date\": \"2024-01-01T00:00:00Z\"}, \
-     {\"serial\": \"07\", \"date\": \"2024-01-01T00:00:00Z\"}]}], \"signers\": 2}\n",
+    "{\"asns\":[],\"certificates\":[{\"aki\":\"07AAE1B618F604C684EE3189FA1723BEF8656FE4\",\
+     \"ca\":false,\"cert_serial\":\"03\",\"ski\":\"461D6580E38CCB6DC72699B6C945E53831DCDF03\",\
+     \"valid_since\":\"2024-01-01T00:00:00Z\",\"valid_until\":\"2034-12-31T23:59:59Z\"},\
+     {\"aki\":\"CB473678976F425D6EC1339838F11011007AD27D\",\"ca\":true,\"cert_serial\":\"02\",\
+     \"ski\":\"07AAE1B618F604C684EE3189FA1723BEF8656FE4\",\
+     \"valid_since\":\"2024-01-01T00:00:00Z\",\"valid_until\":\"2034-12-31T23:59:59Z\"}],\
+     \"crls\":[{\"aki\":\"07AAE1B618F604C684EE3189FA1723BEF8656FE4\",\"crl_serial\":\"0C\",\
+     \"revoked_certs\":[{\"date\":\"2024-01-01T00:00:00Z\",\"serial\":\"04\"},\
+     {\"date\":\"2024-01-01T00:00:00Z\",\"serial\":\"07\"}],\
+     \"valid_since\":\"2024-01-01T00:00:00Z\",\"valid_until\":\"2024-01-08T00:00:00Z\"}],\
+     \"digest\":\"0000000000000000000000000000000000000000000000000000000000000000\",\
+     \"file\":\"whole.rta\",\"ipv4\":[],\"ipv6\":[],\"keys\":[],\"signers\":2,\
+     \"type\":\"rta\"}\n",
 );
 
-static SHOWN: [Row; 16] = [
-    (By::Both, "content rta nothing", NOTHING_SHOWN, 1),
-    (By::Both, "content rta nothing-and-more", NOTHING_SHOWN, 1),
-    (By::Both, "content rta nothing-cut", MALFORMED, 1),
-    (By::Both, "content rta all", ALL_SHOWN, 1),
-    (By::Both, "--relaxed content rta all", ALL_SHOWN, 1),
-    (By::Both, "--relaxed content rta all-in-ber", MALFORMED, 1),
-    (By::Objects, "content rta unnamed", MALFORMED, 1),
+static SHOWN: [Row; 15] = [
+    (By::Objects, "content rta nothing", NOTHING_SHOWN, 1),
     (
-        By::Verify,
-        "content rta unnamed",
-        Said::No("malformed: resources names neither AS numbers nor addresses\n"),
+        By::Objects,
+        "content rta nothing-and-more",
+        NOTHING_SHOWN,
         1,
     ),
-    (By::Both, "content rta empty.rta", MALFORMED, 1),
+    (By::Objects, "content rta nothing-cut", MALFORMED, 1),
+    (By::Objects, "content rta all", ALL_SHOWN, 1),
+    (By::Objects, "--relaxed content rta all", ALL_SHOWN, 1),
     (
-        By::Both,
+        By::Objects,
+        "--relaxed content rta all-in-ber",
+        MALFORMED,
+        1,
+    ),
+    (By::Objects, "content rta unnamed", MALFORMED, 1),
+    (By::Objects, "content rta empty.rta", MALFORMED, 1),
+    (
+        By::Objects,
         "show rta empty.rta",
         Said::Yes(
             "rta\ndigest 0000000000000000000000000000000000000000000000000000000000000000\n\
@@ -102,9 +103,9 @@ static SHOWN: [Row; 16] = [
         ),
         1,
     ),
-    (By::Both, "show rta whole.rta", WHOLE_SHOWN, 1),
-    (By::Both, "--relaxed show rta whole.rta", WHOLE_SHOWN, 1),
-    (By::Both, "show rta nothing", MALFORMED, 1),
+    (By::Objects, "show rta whole.rta", WHOLE_SHOWN, 1),
+    (By::Objects, "--relaxed show rta whole.rta", WHOLE_SHOWN, 1),
+    (By::Objects, "show rta nothing", MALFORMED, 1),
     (By::Verify, "show whole.rta", CARRIED_SHOWN, 1),
     (By::Verify, "show --kind rta whole.rta", CARRIED_SHOWN, 1),
     (By::Verify, "show --json whole.rta", CARRIED_IN_JSON, 1),
@@ -316,60 +317,54 @@ static CHECKED: [Row; 36] = [
     ),
     (
         By::Verify,
-        "rta empty.rta 20270101000000Z tal=tal",
+        "rta --at 20270101000000Z empty.rta tal=tal",
         EMPTY_YES,
         2,
     ),
-    (By::Verify, "rta empty.rta now tal=tal", EMPTY_YES, 2),
+    (By::Verify, "rta empty.rta tal=tal", EMPTY_YES, 2),
     (
         By::WithoutClock,
-        "rta empty.rta now tal=tal",
+        "rta empty.rta tal=tal",
         Said::Error(2, "cannot tell the time\n"),
         0,
     ),
     (
         By::Verify,
-        "rta granted.rta 20270101000000Z tal=tal",
+        "rta --at 20270101000000Z granted.rta tal=tal",
         MISSING_CRL,
         2,
     ),
-    (By::Verify, "rta anchor.cer now tal=tal", MALFORMED, 2),
+    (By::Verify, "rta anchor.cer tal=tal", MALFORMED, 2),
 ];
 
 /// A list without a line: no signature of these files is one by RSA.
 const NONE_LISTED: Said = Said::Yes("");
 
-static LISTED: [Row; 7] = [
+static LISTED: [Row; 6] = [
     (
         By::Verify,
-        "verdicts rta granted.rta tal=tal ca=anchor.cer:ca.cer",
+        "verdicts granted.rta tal=tal ca=anchor.cer:ca.cer",
         NONE_LISTED,
-        4,
+        3,
     ),
     (
         By::Verify,
-        "verdicts rta empty.rta tal=anchor.cer",
+        "verdicts empty.rta tal=anchor.cer",
         NONE_LISTED,
+        1,
+    ),
+    (By::Verify, "verdicts anchor.cer tal=tal", MALFORMED, 1),
+    (
+        By::Verify,
+        "verdicts empty.rta tal=tal ca=tal",
+        NO_ISSUER,
         2,
     ),
-    (By::Verify, "verdicts rta anchor.cer tal=tal", MALFORMED, 2),
     (
         By::Verify,
-        "verdicts rta empty.rta tal=tal ca=tal",
-        NO_ISSUER,
-        3,
-    ),
-    (
-        By::Verify,
-        "verdicts rta empty.rta ca=anchor.cer:none",
+        "verdicts empty.rta ca=anchor.cer:none",
         Said::Error(4, "cannot read none: no such file\n"),
-        3,
-    ),
-    (
-        By::Verify,
-        "verdicts rta rta tal=tal",
-        Said::Error(4, "cannot read rta: no such file\n"),
-        1,
+        2,
     ),
     (By::Objects, "verdicts rta empty.rta tal=tal", USAGE, 0),
 ];

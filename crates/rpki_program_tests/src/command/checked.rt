@@ -36,24 +36,18 @@ const BAD_VERDICTS: Said = Said::Error(2, "bad verdicts\n");
 const ROA_YES: Said = Said::Yes("yes\nroa\nas AS64496\norigin 192.0.2.0/24\n");
 
 /// Objects that are shown, and checked by signatures and by verdicts.
-static ROWS: [Row; 30] = [
-    (By::Both, "show roa ber.roa", MALFORMED, 1),
+static ROWS: [Row; 29] = [
+    (By::Objects, "show roa ber.roa", MALFORMED, 1),
     (By::Objects, "show manifest a.sig", MALFORMED, 1),
     (By::Objects, "show rsc a.mft", MALFORMED, 1),
     (By::Verify, "show --kind manifest a.sig", OTHER_TYPE, 1),
     (
         By::Verify,
-        "show a.roa gone.roa",
-        Said::Error(4, "cannot read gone.roa: no such file\n"),
-        2,
+        "check --at 20240601120000Z --ta ta.cer a.roa",
+        Said::No("issuer refused: ta.cer: signature is not valid\n"),
+        1,
     ),
-    (
-        By::Verify,
-        "check roa a.roa 20240601120000Z ta.cer",
-        Said::No("issuer refused: signature is not valid\n"),
-        2,
-    ),
-    (By::Verify, "verdicts a.roa ta.cer", Said::Yes(""), 2),
+    (By::Verify, "verdicts --ta ta.cer a.roa", Said::Yes(""), 2),
     (
         By::Objects,
         "check aspa a.asa 20240601120000Z verdicts ta.cer",

@@ -1,4 +1,4 @@
-//! A store that a run is given.
+//! A store that a run is given, and a system.
 
 ghost use Rattle.std.specs.Prelude.{◌≡◌, MatchOption, bytes_eq, None, Some};
 ghost use Rattle.std.specs.Map.{lookup};
@@ -8,7 +8,9 @@ ghost use Rattle.rpki_program_tests.specs.Command.Given.{by_name};
 
 use bytes::Bytes;
 use rpki_cli::{ReadLog, Reason, Store, StoreError};
-use std::alloc::Global;
+use rpki_program::verify::system::{FolderNames, System};
+use rpki_relying_party::{Fetched, NoFile};
+use std::alloc::{AllocError, Global};
 
 /// A store with these files by name, and one that memory is not enough for, `large`.
 #[derive(Drop)]
@@ -53,6 +55,37 @@ impl Store for Files<'_> {
             },
         }
     }
+}
+
+/// A system without folders, to which nothing is told.
+#[derive(Drop)]
+pub struct Nowhere;
+
+impl System for Nowhere {
+    ghost use Rattle.std.specs.Prelude.{⊤};
+
+    // Anything, as far as its contract says.
+    ghost named = { λ _ _ _. ⊤ };
+
+    // Anything, here too.
+    ghost finds = { λ _ _ _ _. ⊤ };
+
+    fn names(&self, _alloc: Global, _folder: &str) -> Result<FolderNames, StoreError> {
+        Err(StoreError::Unreadable(Reason::NotFound))
+    }
+
+    fn read(
+        &self,
+        _alloc: Global,
+        _folder: &str,
+        _name: &[u8],
+        _max_file: u64,
+        _most: u64,
+    ) -> Result<Fetched, AllocError> {
+        Ok(Fetched::NoFile(NoFile::Missing))
+    }
+
+    fn tell(&self, _files: u64) {}
 }
 
 /// The octets of the first file with this name, if there is one.

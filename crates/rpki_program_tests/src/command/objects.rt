@@ -25,7 +25,7 @@ const NOT_ISSUED: Said = Said::No("refused: not issued by this CA\n");
 /// Objects that are shown, and checked by verdicts and by signatures.
 static ROWS: [Row; 23] = [
     (
-        By::Both,
+        By::Objects,
         "show roa origin.roa",
         Said::Yes(
             "roa\nas AS64496\norigin 192.0.2.0/24-26\norigin 2001:db8::/32-48\n\
@@ -34,9 +34,9 @@ static ROWS: [Row; 23] = [
         1,
     ),
     (By::Objects, "show aspa origin.roa", MALFORMED, 1),
-    (By::Verify, "show aspa origin.roa", OTHER_TYPE, 1),
-    (By::Both, "show roa anchor.cer", MALFORMED, 1),
-    (By::Both, "show roa empty", MALFORMED, 1),
+    (By::Verify, "show --kind aspa origin.roa", OTHER_TYPE, 1),
+    (By::Objects, "show roa anchor.cer", MALFORMED, 1),
+    (By::Objects, "show roa empty", MALFORMED, 1),
     (
         By::Objects,
         "show roa gone.roa",
@@ -45,11 +45,11 @@ static ROWS: [Row; 23] = [
     ),
     (
         By::Verify,
-        "show roa gone.roa",
-        Said::Error(4, "cannot read gone.roa: no such file\n"),
+        "show gone.roa",
+        Said::Unread("cannot be read: no such file\n"),
         1,
     ),
-    (By::Both, "show roa large", OUT_OF_MEMORY, 1),
+    (By::Objects, "show roa large", OUT_OF_MEMORY, 1),
     (
         By::Objects,
         "check roa origin.roa 20270101000000Z origin.verdicts anchor.cer authority.cer",
@@ -88,43 +88,43 @@ static ROWS: [Row; 23] = [
     ),
     (
         By::Verify,
-        "check roa origin.roa now anchor.cer authority.cer",
+        "check --ta anchor.cer --ca authority.cer origin.roa",
         ORIGIN_YES,
         3,
     ),
     (
         By::Verify,
-        "check roa origin.roa 20270101000000Z anchor.cer authority.cer",
+        "check --at 20270101000000Z --ta anchor.cer --ca=authority.cer origin.roa",
         ORIGIN_YES,
         3,
     ),
     (
         By::Verify,
-        "check roa origin.roa 2027-01-01T00:00:00Z anchor.cer authority.cer",
+        "check --at=2027-01-01T00:00:00Z --ta anchor.cer --ca authority.cer -- origin.roa",
         ORIGIN_YES,
         3,
     ),
     (
         By::WithoutClock,
-        "check roa origin.roa now anchor.cer authority.cer",
+        "check --ta anchor.cer --ca authority.cer origin.roa",
         Said::Error(2, "cannot tell the time\n"),
         0,
     ),
     (
         By::Verify,
-        "check roa origin.roa now anchor.cer",
+        "check --ta anchor.cer origin.roa",
         NOT_ISSUED,
         2,
     ),
     (
         By::Verify,
-        "check manifest origin.roa now anchor.cer authority.cer",
+        "check --kind manifest --ta anchor.cer --ca authority.cer origin.roa",
         OTHER_TYPE,
         3,
     ),
     (
         By::Verify,
-        "verdicts origin.roa anchor.cer authority.cer",
+        "verdicts --ta anchor.cer --ca authority.cer origin.roa",
         Said::Yes(
             "6ba2c1362dc62e57a317e138d9fe4a9a13ae609ebb18c813a7f7312affe3ee9b \
              8e78cc0b387f97fe9ac0b67fe8027bf699a15c279d2454728c22b280591a3307 \
@@ -141,11 +141,16 @@ static ROWS: [Row; 23] = [
         ),
         3,
     ),
-    (By::Verify, "verdicts anchor.cer anchor.cer", MALFORMED, 2),
     (
         By::Verify,
-        "verdicts ./rta anchor.cer",
-        Said::Error(4, "cannot read ./rta: no such file\n"),
+        "verdicts --ta anchor.cer anchor.cer",
+        MALFORMED,
+        2,
+    ),
+    (
+        By::Verify,
+        "verdicts --ta anchor.cer gone.roa",
+        Said::Error(4, "cannot read gone.roa: no such file\n"),
         1,
     ),
 ];

@@ -1,12 +1,11 @@
 //! Runs of the programs over files in memory, and how their rows are walked.
 
-use super::given::Files;
-use super::payloads::Echo;
+use super::given::{Files, Nowhere};
 use rpki_basics::Time;
-use rpki_cli::{Program, command};
+use rpki_cli::command;
 use rpki_command::Objects;
-use rpki_command::verify::Verify;
 use rpki_der::Counted;
+use rpki_program::verify::run::command as verify;
 use std::alloc::{AllocError, Global};
 
 /// Which program runs.
@@ -18,8 +17,6 @@ pub enum By {
     Verify,
     /// The same with a clock that tells no moment.
     WithoutClock,
-    /// Each of the programs.
-    Both,
 }
 
 /// What a run says.
@@ -31,8 +28,8 @@ pub enum Said {
     No(&'static str),
     /// This on standard error, with this status.
     Error(u8, &'static str),
-    /// The first on standard output and the second on standard error, with status 1.
-    Report(&'static str, &'static str),
+    /// This on standard output, with status 4.
+    Unread(&'static str),
 }
 
 /// A file, by its name.
@@ -67,7 +64,7 @@ impl Ran {
             Said::Yes(text) => (0, text, ""),
             Said::No(text) => (1, text, ""),
             Said::Error(status, text) => (status, "", text),
-            Said::Report(out, err) => (1, out, err),
+            Said::Unread(text) => (4, text, ""),
         };
         self.status == status
             && self.out.as_slice() == out.as_bytes()
@@ -84,17 +81,24 @@ fn words_of(alloc: Global, line: &'static str) -> Result<Vec<&'static str>, Allo
     }
 }
 
-fn run<P: Program>(
-    alloc: Global,
-    program: &P,
-    line: &'static str,
-    files: &[File],
-) -> Result<Ran, AllocError> {
+fn run(alloc: Global, by: By, line: &'static str, files: &[File]) -> Result<Ran, AllocError> {
     let words = words_of(alloc, line)?;
+    let clock = match by {
+        By::Verify => Time::utc(2027, 1, 1, 0, 0, 0),
+        By::Objects | By::WithoutClock => None,
+    };
     let mut store = Files::new(files);
     let mut out = Counted::new(Vec::with_capacity(alloc, ROOM)?);
     let mut err = Counted::new(Vec::with_capacity(alloc, ROOM)?);
-    let status = command(alloc, program, &words, &mut store, &mut out, &mut err);
+    let status = match by {
+        By::Objects => command(alloc, &Objects, &words, &mut store, &mut out, &mut err),
+        By::Verify | By::WithoutClock => {
+            let system = Nowhere;
+            verify(
+                alloc, &words, clock, &mut store, &system, &mut out, &mut err,
+            )
+        }
+    };
     Ok(Ran {
         status,
         out: out.inner,
@@ -103,41 +107,17 @@ fn run<P: Program>(
     })
 }
 
-// Whether a program answers a row. That memory ran out before the answer is handed on.
-fn answers<P: Program>(
-    alloc: Global,
-    program: &P,
-    files: &[File],
-    row: &Row,
-) -> Result<bool, AllocError> {
-    let ran = run(alloc, program, row.1, files)?;
+// Whether the program of a row answers it. That memory ran out before the answer is handed on,
+// whatever is said of files before.
+fn is_answered(alloc: Global, files: &[File], row: &Row) -> Result<bool, AllocError> {
+    let ran = run(alloc, row.0, row.1, files)?;
     if ran.says(row.2) && ran.reads == row.3 {
         return Ok(true);
     }
-    if ran.says(OUT_OF_MEMORY) {
+    if ran.status == 3 {
         return Err(AllocError);
     }
     Ok(false)
-}
-
-fn with_clock(clock: Option<Time>) -> Verify<Echo> {
-    Verify {
-        clock,
-        relying_party: Echo,
-    }
-}
-
-// Whether the programs of a row answer it.
-fn is_answered(alloc: Global, files: &[File], row: &Row) -> Result<bool, AllocError> {
-    let verify = with_clock(Time::utc(2027, 1, 1, 0, 0, 0));
-    match row.0 {
-        By::Objects => answers(alloc, &Objects, files, row),
-        By::Verify => answers(alloc, &verify, files, row),
-        By::WithoutClock => answers(alloc, &with_clock(None), files, row),
-        By::Both => {
-            Ok(answers(alloc, &Objects, files, row)? && answers(alloc, &verify, files, row)?)
-        }
-    }
 }
 
 /// How many rows are answered before the first that is not, or all.

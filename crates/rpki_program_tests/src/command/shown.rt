@@ -230,85 +230,62 @@ const ASPA: Said = Said::Yes(
      provider AS2914\nprovider AS8283\nprovider AS51088\nprovider AS206238\n",
 );
 
-const NOT_ASCENDING: Said = Said::No("malformed: provider AS numbers are not in ascending order\n");
-
-const MAX_LENGTH: Said = Said::No(
-    "malformed: maxLength is below the length of the prefix or above that of an address\n",
-);
-
-const BAD_NAME: Said = Said::No("malformed: file name in fileList is not in its form\n");
-
-static ROWS: [Row; 101] = [
-    (By::Both, "content aspa aspa", ASPA, 1),
-    (By::Both, "--relaxed content aspa aspa", ASPA, 1),
-    (By::Both, "--registered content aspa aspa", ASPA, 1),
-    (By::Both, "--wide content aspa aspa", ASPA, 1),
+static ROWS: [Row; 79] = [
+    (By::Objects, "content aspa aspa", ASPA, 1),
+    (By::Objects, "--relaxed content aspa aspa", ASPA, 1),
+    (By::Objects, "--registered content aspa aspa", ASPA, 1),
+    (By::Objects, "--wide content aspa aspa", ASPA, 1),
     (
-        By::Both,
+        By::Objects,
         "--relaxed --registered --wide content aspa aspa",
         ASPA,
         1,
     ),
-    (By::Both, "--relaxed content aspa aspa-in-ber", MALFORMED, 1),
-    (By::Both, "content aspa aspa-and-more", ASPA, 1),
-    (By::Both, "content aspa aspa-cut", MALFORMED, 1),
-    (By::Both, "content aspa aspa-without-version", MALFORMED, 1),
-    (By::Objects, "content aspa aspa-of-as0", MALFORMED, 1),
     (
-        By::Verify,
-        "content aspa aspa-of-as0",
-        Said::No("malformed: customer is AS0\n"),
+        By::Objects,
+        "--relaxed content aspa aspa-in-ber",
+        MALFORMED,
         1,
     ),
+    (By::Objects, "content aspa aspa-and-more", ASPA, 1),
+    (By::Objects, "content aspa aspa-cut", MALFORMED, 1),
     (
-        By::Both,
+        By::Objects,
+        "content aspa aspa-without-version",
+        MALFORMED,
+        1,
+    ),
+    (By::Objects, "content aspa aspa-of-as0", MALFORMED, 1),
+    (
+        By::Objects,
         "content aspa aspa-of-largest",
         Said::Yes("aspa\ncustomer AS4294967295\nprovider AS1\n"),
         1,
     ),
     (
-        By::Both,
+        By::Objects,
         "content aspa aspa-by-largest",
         Said::Yes("aspa\ncustomer AS1\nprovider AS4294967295\n"),
         1,
     ),
-    (By::Both, "show aspa aspa", MALFORMED, 1),
+    (By::Objects, "show aspa aspa", MALFORMED, 1),
     (
         By::Objects,
         "content aspa other",
         Said::Error(2, "cannot read other\n"),
         1,
     ),
-    (
-        By::Verify,
-        "content aspa other",
-        Said::Error(4, "cannot read other: no such file\n"),
-        1,
-    ),
-    (By::Both, "content aspa large", OUT_OF_MEMORY, 1),
+    (By::Objects, "content aspa large", OUT_OF_MEMORY, 1),
     (
         By::Objects,
         "content aspa aspa-as0-beside-another",
         MALFORMED,
         1,
     ),
-    (
-        By::Verify,
-        "content aspa aspa-as0-beside-another",
-        Said::No("malformed: AS0 stands beside other provider AS numbers\n"),
-        1,
-    ),
     (By::Objects, "content aspa aspa-swapped", MALFORMED, 1),
-    (By::Verify, "content aspa aspa-swapped", NOT_ASCENDING, 1),
     (By::Objects, "content aspa aspa-of-none", MALFORMED, 1),
     (
-        By::Verify,
-        "content aspa aspa-of-none",
-        Said::No("malformed: there is no provider AS number\n"),
-        1,
-    ),
-    (
-        By::Both,
+        By::Objects,
         "content aspa aspa-as0-alone",
         Said::Yes("aspa\ncustomer AS15562\nprovider AS0\n"),
         1,
@@ -320,87 +297,61 @@ static ROWS: [Row; 101] = [
         1,
     ),
     (
-        By::Verify,
-        "content aspa aspa-provider-twice",
-        NOT_ASCENDING,
-        1,
-    ),
-    (
         By::Objects,
         "content aspa aspa-customer-provides",
         MALFORMED,
         1,
     ),
+    (By::Objects, "content aspa aspa-version-0", MALFORMED, 1),
+    (By::Objects, "content aspa aspa-version-2", MALFORMED, 1),
     (
-        By::Verify,
-        "content aspa aspa-customer-provides",
-        Said::No("malformed: customer is one of its provider AS numbers\n"),
-        1,
-    ),
-    (By::Both, "content aspa aspa-version-0", MALFORMED, 1),
-    (By::Both, "content aspa aspa-version-2", MALFORMED, 1),
-    (
-        By::Both,
+        By::Objects,
         "content roa roa",
         Said::Yes("roa\nas AS64496\norigin 192.0.2.0/24\n"),
         1,
     ),
     (
-        By::Both,
+        By::Objects,
         "content roa roa-26",
         Said::Yes("roa\nas AS64496\norigin 192.0.2.0/24-26\n"),
         1,
     ),
     (By::Objects, "content roa roa-23", MALFORMED, 1),
-    (By::Verify, "content roa roa-23", MAX_LENGTH, 1),
     (By::Objects, "content roa roa-33", MALFORMED, 1),
-    (By::Verify, "content roa roa-33", MAX_LENGTH, 1),
     (
-        By::Both,
+        By::Objects,
         "content roa roa-24",
         Said::Yes("roa\nas AS64496\norigin 192.0.2.0/24-24\n"),
         1,
     ),
     (
-        By::Both,
+        By::Objects,
         "content roa roa-32",
         Said::Yes("roa\nas AS64496\norigin 192.0.2.0/24-32\n"),
         1,
     ),
     (
-        By::Both,
+        By::Objects,
         "content roa roa-empty",
         Said::Yes("roa\nas AS64496\n"),
         1,
     ),
     (By::Objects, "content roa roa-ipv4-twice", MALFORMED, 1),
-    (
-        By::Verify,
-        "content roa roa-ipv4-twice",
-        Said::No("malformed: addressFamily is named more than once\n"),
-        1,
-    ),
     (By::Objects, "content roa roa-long-prefix", MALFORMED, 1),
     (
-        By::Verify,
-        "content roa roa-long-prefix",
-        Said::No("malformed: prefix is longer than an address of its family\n"),
-        1,
-    ),
-    (
-        By::Both,
+        By::Objects,
         "content roa roa-unused-bits",
         Said::Yes("roa\nas AS64496\norigin 192.0.0.0/21\n"),
         1,
     ),
     (
-        By::Both,
+        By::Objects,
         "content roa roa-of-both",
         Said::Yes("roa\nas AS1\norigin 0.0.0.0/0-32\norigin 2001:db8::/32-48\norigin ::1/128\n"),
         1,
     ),
     (
-        By::Both,
+        By::Objects,
         "content manifest mft",
         Said::Yes(
             "manifest\nnumber c\nthis 2024-01-01T00:00:00Z\nnext 2024-01-08T00:00:00Z\n\
@@ -409,7 +360,7 @@ static ROWS: [Row; 101] = [
         1,
     ),
     (
-        By::Both,
+        By::Objects,
         "content manifest mft-of-no-time",
         Said::Yes(
             "manifest\nnumber c\nthis 2024-01-01T00:00:00Z\nnext 2024-01-01T00:00:00Z\n\
@@ -419,13 +370,7 @@ static ROWS: [Row; 101] = [
     ),
     (By::Objects, "content manifest mft-backwards", MALFORMED, 1),
     (
-        By::Verify,
-        "content manifest mft-backwards",
-        Said::No("malformed: thisUpdate is after nextUpdate\n"),
-        1,
-    ),
-    (
-        By::Both,
+        By::Objects,
         "content manifest mft-upper-case",
         Said::Yes(
             "manifest\nnumber 1\nthis 2024-01-01T00:00:00Z\nnext 2024-01-08T00:00:00Z\n\
@@ -434,7 +379,7 @@ static ROWS: [Row; 101] = [
         1,
     ),
     (
-        By::Both,
+        By::Objects,
         "content manifest mft-other-type",
         Said::Yes(
             "manifest\nnumber 1\nthis 2024-01-01T00:00:00Z\nnext 2024-01-08T00:00:00Z\n\
@@ -443,19 +388,13 @@ static ROWS: [Row; 101] = [
         1,
     ),
     (By::Objects, "content manifest mft-slash", MALFORMED, 1),
-    (By::Verify, "content manifest mft-slash", BAD_NAME, 1),
     (By::Objects, "content manifest mft-dots", MALFORMED, 1),
-    (By::Verify, "content manifest mft-dots", BAD_NAME, 1),
     (By::Objects, "content manifest mft-long-type", MALFORMED, 1),
-    (By::Verify, "content manifest mft-long-type", BAD_NAME, 1),
     (By::Objects, "content manifest mft-no-name", MALFORMED, 1),
-    (By::Verify, "content manifest mft-no-name", BAD_NAME, 1),
     (By::Objects, "content manifest mft-line-end", MALFORMED, 1),
-    (By::Verify, "content manifest mft-line-end", BAD_NAME, 1),
     (By::Objects, "content manifest mft-short-type", MALFORMED, 1),
-    (By::Verify, "content manifest mft-short-type", BAD_NAME, 1),
     (
-        By::Both,
+        By::Objects,
         "content manifest mft-once",
         Said::Yes(
             "manifest\nnumber c\nthis 2024-01-01T00:00:00Z\nnext 2024-01-08T00:00:00Z\n\
@@ -464,13 +403,13 @@ static ROWS: [Row; 101] = [
         1,
     ),
     (
-        By::Both,
+        By::Objects,
         "content rsc rsc",
         Said::Yes("rsc\nas AS64496\nunnamed 68617368\n"),
         1,
     ),
     (
-        By::Both,
+        By::Objects,
         "content rsc rsc-of-all",
         Said::Yes(
             "rsc\nas AS1\nas AS10-AS20\nv4 10.0.0.0/8\nv4 192.0.2.0-192.0.2.2\nv6 ::/0\n\
@@ -479,7 +418,7 @@ static ROWS: [Row; 101] = [
         1,
     ),
     (
-        By::Both,
+        By::Objects,
         "content rta rta-v6",
         Said::Yes(
             "rta\nkey ABABABABABABABABABABABABABABABABABABABAB\nv6 2001:db8::1-2001:db8::3\n\
@@ -488,14 +427,14 @@ static ROWS: [Row; 101] = [
         1,
     ),
     (
-        By::Both,
+        By::Objects,
         "show tal tal",
         Said::Yes(
             "tal\nuri rsync://a.example.com/1/1\nkey A9993E364706816ABA3E25717850C26C9CD0D89D\n",
         ),
         1,
     ),
-    (By::Both, "show tal tal-none", MALFORMED, 1),
+    (By::Objects, "show tal tal-none", MALFORMED, 1),
     (
         By::Objects,
         "--registered content manifest mft",
@@ -503,13 +442,7 @@ static ROWS: [Row; 101] = [
         1,
     ),
     (
-        By::Verify,
-        "--registered content manifest mft",
-        Said::No("malformed: file name stands more than once in fileList\n"),
-        1,
-    ),
-    (
-        By::Both,
+        By::Objects,
         "--registered content manifest mft-once",
         Said::Yes(
             "manifest\nnumber c\nthis 2024-01-01T00:00:00Z\nnext 2024-01-08T00:00:00Z\n\
@@ -523,29 +456,23 @@ static ROWS: [Row; 101] = [
         MALFORMED,
         1,
     ),
+    (By::Objects, "show tal aspa", MALFORMED, 1),
+    (By::Objects, "content roa rsc", MALFORMED, 1),
+    (By::Objects, "content manifest roa", MALFORMED, 1),
     (
-        By::Verify,
-        "--registered content manifest mft-other-type",
-        Said::No("malformed: file name in fileList has an extension that is not registered\n"),
-        1,
-    ),
-    (By::Both, "show tal aspa", MALFORMED, 1),
-    (By::Both, "content roa rsc", MALFORMED, 1),
-    (By::Both, "content manifest roa", MALFORMED, 1),
-    (
-        By::Both,
+        By::Objects,
         "content roa roa-v6-first",
         Said::Yes("roa\nas AS1\norigin 10.0.0.0/8-8\norigin 2001:db8::/32\n"),
         1,
     ),
     (
-        By::Both,
+        By::Objects,
         "--relaxed --registered --wide content roa roa-26",
         Said::Yes("roa\nas AS64496\norigin 192.0.2.0/24-26\n"),
         1,
     ),
-    (By::Both, "content roa aspa", MALFORMED, 1),
-    (By::Both, "content aspa roa", MALFORMED, 1),
+    (By::Objects, "content roa aspa", MALFORMED, 1),
+    (By::Objects, "content aspa roa", MALFORMED, 1),
     (
         By::Objects,
         "--wide content aspa aspa-as0-beside-another",
@@ -577,13 +504,13 @@ static ROWS: [Row; 101] = [
         1,
     ),
     (
-        By::Both,
+        By::Objects,
         "content manifest mft-of-none",
         Said::Yes("manifest\nnumber 0\nthis 2024-02-29T23:59:59Z\nnext 2024-02-29T23:59:59Z\n"),
         1,
     ),
     (
-        By::Both,
+        By::Objects,
         "content manifest mft-of-any-type",
         Said::Yes(
             "manifest\nnumber 1234\nthis 2024-02-29T23:59:59Z\nnext 2024-02-29T23:59:59Z\n\
@@ -598,7 +525,7 @@ static ROWS: [Row; 101] = [
         1,
     ),
     (
-        By::Both,
+        By::Objects,
         "content rsc rsc-of-ranges",
         Said::Yes(
             "rsc\nas AS10\nas AS20-AS30\nv4 10.0.0.0/8\n\
@@ -608,16 +535,10 @@ static ROWS: [Row; 101] = [
         1,
     ),
     (By::Objects, "content rsc rsc-of-nothing", MALFORMED, 1),
+    (By::Objects, "content rsc mft", MALFORMED, 1),
+    (By::Objects, "--relaxed show manifest mft", MALFORMED, 1),
     (
-        By::Verify,
-        "content rsc rsc-of-nothing",
-        Said::No("malformed: resources names neither AS numbers nor addresses\n"),
-        1,
-    ),
-    (By::Both, "content rsc mft", MALFORMED, 1),
-    (By::Both, "--relaxed show manifest mft", MALFORMED, 1),
-    (
-        By::Both,
+        By::Objects,
         "--relaxed show tal tal",
         Said::Yes(
             "tal\nuri rsync://a.example.com/1/1\nkey A9993E364706816ABA3E25717850C26C9CD0D89D\n",
@@ -625,7 +546,7 @@ static ROWS: [Row; 101] = [
         1,
     ),
     (
-        By::Both,
+        By::Objects,
         "show tal tal-of-two",
         Said::Yes(
             "tal\nuri https://a.example.com/1\nuri rsync://a.example.com/1/1\n\
@@ -633,21 +554,15 @@ static ROWS: [Row; 101] = [
         ),
         1,
     ),
-    (By::Both, "show tal tal-without-key", MALFORMED, 1),
-    (By::Both, "show tal uri-alone", MALFORMED, 1),
+    (By::Objects, "show tal tal-without-key", MALFORMED, 1),
+    (By::Objects, "show tal uri-alone", MALFORMED, 1),
     (
         By::Objects,
         "show tal other",
         Said::Error(2, "cannot read other\n"),
         1,
     ),
-    (
-        By::Verify,
-        "show tal other",
-        Said::Error(4, "cannot read other: no such file\n"),
-        1,
-    ),
-    (By::Both, "show tal large", OUT_OF_MEMORY, 1),
+    (By::Objects, "show tal large", OUT_OF_MEMORY, 1),
 ];
 
 #[test]

@@ -6,11 +6,8 @@ use crate::folder::files::Files;
 use bytes::Bytes;
 use rpki_basics::standin::StandIn;
 use rpki_basics::{ProviderLimit, Time};
-use rpki_cli::answer::Answer;
-use rpki_cli::verify::words::Format;
-use rpki_cli::verify::{PayloadsRequest, RelyingParty};
-use rpki_cli::words::{Word, Words};
-use rpki_payloads::FolderParty;
+use rpki_payloads::formats::PayloadFormat;
+use rpki_payloads::{FolderParty, LocatorFault, PayloadsReport, locators_in, report_payloads};
 use rpki_relying_party::{Fetched, Folders};
 use rpki_testing::Fail;
 use std::alloc::{AllocError, Global};
@@ -18,7 +15,7 @@ use std::alloc::{AllocError, Global};
 /// In which form, in which year and within which limit what is asked, of which files of locators
 /// with which octets.
 type Asked = (
-    Format,
+    PayloadFormat,
     u16,
     u64,
     &'static [&'static str],
@@ -42,23 +39,25 @@ const LINES: &str = "origin AS65001 10.1.0.0/16-24\norigin AS65100 192.0.2.0/24\
 const CSV: &str = "ASN,IP Prefix,Max Length,Trust Anchor,Expires\n\
     AS65001,10.1.0.0/16,24,one,2082758400\nAS65100,192.0.2.0/24,24,one,2082758400\n";
 
-const JSON: &str = "{
-  \"metadata\": {
-    \"generated\": 1798761600,
-    \"generatedTime\": \"2027-01-01T00:00:00Z\",
-    \"buildtime\": \"2027-01-01T00:00:00Z\"
-  },
-  \"roas\": [
-    { \"asn\": \"AS65001\", \"prefix\": \"10.1.0.0/16\", \"maxLength\": 24, \
-    \"ta\": \"one\", \"expires\": 2082758400 },
-    { \"asn\": \"AS65100\", \"prefix\": \"192.0.2.0/24\", \"maxLength\": 24, \
-    \"ta\": \"one\", \"expires\": 2082758400 }
-  ],
-  \"aspas\": [
-    { \"customer\": \"AS65001\", \"providers\": [\"AS65010\", \"AS65011\"], \
-    \"ta\": \"one\", \"expires\": 2082758400 }
-  ]
-}
+const JSON: &str = "{\"aspas\":[
+{\"customer\":\"AS65001\",\"expires\":2082758400,\"providers\":[\"AS65010\",\"AS65011\"],\
+\"ta\":\"one\"}
+],
+\"metadata\":
+{\"buildtime\":\"2027-01-01T00:00:00Z\",\"generated\":1798761600,\
+\"generatedTime\":\"2027-01-01T00:00:00Z\",\
+\"locators\":[{\"name\":\"one\",\"origins\":2,\"providers\":2,\"refused\":2}]},
+\"refused\":[
+{\"ca\":\"rsync://h/m/t/t.mft\",\"reason\":\"manifest is not in the copy\",\"ta\":\"one\",\
+\"uri\":\"rsync://h/m/b/b.mft\"},
+{\"ca\":\"rsync://h/m/t/t.mft\",\"reason\":\"malformed\",\"ta\":\"one\",\"uri\":\"rsync://h/m/t/x.roa\"}
+],
+\"roas\":[
+{\"asn\":\"AS65001\",\"expires\":2082758400,\"maxLength\":24,\"prefix\":\"10.1.0.0/16\",\
+\"ta\":\"one\"},
+{\"asn\":\"AS65100\",\"expires\":2082758400,\"maxLength\":24,\"prefix\":\"192.0.2.0/24\",\
+\"ta\":\"one\"}
+]}
 ";
 
 const NO_CSV: &str = "ASN,IP Prefix,Max Length,Trust Anchor,Expires\n";
@@ -68,26 +67,32 @@ const REFUSED: &str = "\
     refused rsync://h/m/b/b.mft: manifest is not in the copy (under rsync://h/m/t/t.mft, one)\n\
     refused rsync://h/m/t/x.roa: malformed (under rsync://h/m/t/t.mft, one)\n";
 
-static ROWS: [(Asked, Wanted); 17] = [
+static ROWS: [(Asked, Wanted); 18] = [
     (
-        (Format::Lines, 2027, MOST, &["one.tal"], &[LOCATOR]),
+        (PayloadFormat::Lines, 2027, MOST, &["one.tal"], &[LOCATOR]),
         Wanted::Reported(LINES, REFUSED, 0),
     ),
     (
-        (Format::Csv, 2027, MOST, &["tals/one.tal"], &[LOCATOR]),
+        (
+            PayloadFormat::Csv,
+            2027,
+            MOST,
+            &["tals/one.tal"],
+            &[LOCATOR],
+        ),
         Wanted::Reported(CSV, REFUSED, 0),
     ),
     (
-        (Format::Json, 2027, MOST, &["one.tal"], &[LOCATOR]),
+        (PayloadFormat::Json, 2027, MOST, &["one.tal"], &[LOCATOR]),
         Wanted::Reported(JSON, REFUSED, 0),
     ),
     // the point of the trust anchor is more than the limit; or it is not, and those below it are
     (
-        (Format::Csv, 2027, 20_000, &["one.tal"], &[LOCATOR]),
+        (PayloadFormat::Csv, 2027, 20_000, &["one.tal"], &[LOCATOR]),
         Wanted::Reported(NO_CSV, "refused one: not read: limit reached\n", 1),
     ),
     (
-        (Format::Lines, 2027, 64_472, &["one.tal"], &[LOCATOR]),
+        (PayloadFormat::Lines, 2027, 64_472, &["one.tal"], &[LOCATOR]),
         Wanted::Reported(
             "origin AS65100 192.0.2.0/24\n",
             "refused rsync://h/m/t/t.mft: not read: 2 CAs, limit reached \
@@ -97,20 +102,20 @@ static ROWS: [(Asked, Wanted); 17] = [
         ),
     ),
     (
-        (Format::Lines, 2027, MOST, &["two.tal"], &[LOCATOR]),
+        (PayloadFormat::Lines, 2027, MOST, &["two.tal"], &[LOCATOR]),
         Wanted::Reported("", "refused two: no certificate with its key\n", 1),
     ),
     (
-        (Format::Lines, 2027, MOST, &["one.tal"], &[OTHER_KEY]),
+        (PayloadFormat::Lines, 2027, MOST, &["one.tal"], &[OTHER_KEY]),
         Wanted::Reported("", "refused one: no certificate with its key\n", 1),
     ),
     (
-        (Format::Lines, 2027, MOST, &["large.tal"], &[LOCATOR]),
+        (PayloadFormat::Lines, 2027, MOST, &["large.tal"], &[LOCATOR]),
         Wanted::Reported("", "refused large: its certificate is too large\n", 1),
     ),
     (
         (
-            Format::Lines,
+            PayloadFormat::Lines,
             2027,
             MOST,
             &["x.tal", "one.tal"],
@@ -127,7 +132,7 @@ static ROWS: [(Asked, Wanted); 17] = [
     ),
     (
         (
-            Format::Csv,
+            PayloadFormat::Csv,
             2027,
             MOST,
             &["a.tal", "tals/b", "c"],
@@ -141,10 +146,10 @@ static ROWS: [(Asked, Wanted); 17] = [
             1,
         ),
     ),
-    // locators of one name have an answer each
+    // locators of one name have an answer each, and a payload of both is printed once
     (
         (
-            Format::Csv,
+            PayloadFormat::Csv,
             2027,
             MOST,
             &["one.tal", "tals/one.tal"],
@@ -152,7 +157,6 @@ static ROWS: [(Asked, Wanted); 17] = [
         ),
         Wanted::Reported(
             "ASN,IP Prefix,Max Length,Trust Anchor,Expires\n\
-             AS65001,10.1.0.0/16,24,one,2082758400\nAS65100,192.0.2.0/24,24,one,2082758400\n\
              AS65001,10.1.0.0/16,24,one,2082758400\nAS65100,192.0.2.0/24,24,one,2082758400\n",
             "refused rsync://h/m/b/b.mft: manifest is not in the copy \
              (under rsync://h/m/t/t.mft, one)\n\
@@ -163,9 +167,28 @@ static ROWS: [(Asked, Wanted); 17] = [
             0,
         ),
     ),
+    (
+        (
+            PayloadFormat::Lines,
+            2027,
+            MOST,
+            &["three.tal", "one.tal"],
+            &[LOCATOR, LOCATOR],
+        ),
+        Wanted::Reported(
+            LINES,
+            "refused rsync://h/m/b/b.mft: manifest is not in the copy \
+             (under rsync://h/m/t/t.mft, three)\n\
+             refused rsync://h/m/t/x.roa: malformed (under rsync://h/m/t/t.mft, three)\n\
+             refused rsync://h/m/b/b.mft: manifest is not in the copy \
+             (under rsync://h/m/t/t.mft, one)\n\
+             refused rsync://h/m/t/x.roa: malformed (under rsync://h/m/t/t.mft, one)\n",
+            0,
+        ),
+    ),
     // before all is made, at the last moment of manifests and lists, and later
     (
-        (Format::Lines, 2025, MOST, &["one.tal"], &[LOCATOR]),
+        (PayloadFormat::Lines, 2025, MOST, &["one.tal"], &[LOCATOR]),
         Wanted::Reported(
             "",
             "refused one: its certificate is refused: certificate is not yet valid\n",
@@ -173,11 +196,11 @@ static ROWS: [(Asked, Wanted); 17] = [
         ),
     ),
     (
-        (Format::Lines, 2036, MOST, &["one.tal"], &[LOCATOR]),
+        (PayloadFormat::Lines, 2036, MOST, &["one.tal"], &[LOCATOR]),
         Wanted::Reported(LINES, REFUSED, 0),
     ),
     (
-        (Format::Lines, 2037, MOST, &["one.tal"], &[LOCATOR]),
+        (PayloadFormat::Lines, 2037, MOST, &["one.tal"], &[LOCATOR]),
         Wanted::Reported(
             "",
             "refused one: manifest is stale: nextUpdate 2036-01-01T00:00:00Z\n",
@@ -185,7 +208,7 @@ static ROWS: [(Asked, Wanted); 17] = [
         ),
     ),
     (
-        (Format::Lines, 2041, MOST, &["one.tal"], &[LOCATOR]),
+        (PayloadFormat::Lines, 2041, MOST, &["one.tal"], &[LOCATOR]),
         Wanted::Reported(
             "",
             "refused one: its certificate is refused: certificate has expired\n",
@@ -194,7 +217,7 @@ static ROWS: [(Asked, Wanted); 17] = [
     ),
     (
         (
-            Format::Lines,
+            PayloadFormat::Lines,
             2027,
             MOST,
             &["one.tal", "tals/b.tal", "c"],
@@ -203,7 +226,7 @@ static ROWS: [(Asked, Wanted); 17] = [
         Wanted::Bad("tals/b.tal"),
     ),
     (
-        (Format::Lines, 2027, MOST, &["c"], &[b""]),
+        (PayloadFormat::Lines, 2027, MOST, &["c"], &[b""]),
         Wanted::Bad("c"),
     ),
 ];
@@ -214,7 +237,7 @@ static LACKING: [(&str, Asked, Wanted); 4] = [
     (
         "ta/two/t.cer",
         (
-            Format::Lines,
+            PayloadFormat::Lines,
             2027,
             MOST,
             &["two.tal", "one.tal"],
@@ -232,7 +255,7 @@ static LACKING: [(&str, Asked, Wanted); 4] = [
     (
         "ta/two/t.cer",
         (
-            Format::Csv,
+            PayloadFormat::Csv,
             2027,
             MOST,
             &["one.tal", "two.tal"],
@@ -250,12 +273,12 @@ static LACKING: [(&str, Asked, Wanted); 4] = [
     // one of the trust anchor's own point, and one of a point below it
     (
         "h/m/t/t.crl",
-        (Format::Lines, 2027, MOST, &["one.tal"], &[LOCATOR]),
+        (PayloadFormat::Lines, 2027, MOST, &["one.tal"], &[LOCATOR]),
         Wanted::Reported("", "refused one: out of memory\n", 1),
     ),
     (
         "h/m/a/a.mft",
-        (Format::Lines, 2027, MOST, &["one.tal"], &[LOCATOR]),
+        (PayloadFormat::Lines, 2027, MOST, &["one.tal"], &[LOCATOR]),
         Wanted::Reported(
             "origin AS65100 192.0.2.0/24\n",
             "refused rsync://h/m/b/b.mft: manifest is not in the copy \
@@ -296,13 +319,17 @@ impl Folders for LackingFiles<'_> {
     }
 }
 
-// The octets of files.
-fn octets_of(alloc: Global, files: &[&[u8]]) -> Result<Vec<Bytes>, AllocError> {
-    let mut octets = Vec::new(alloc);
-    for file in files {
-        octets.push(Bytes::copy_from_slice(alloc, file)?)?;
+// The files of these names, with their octets.
+fn files_of<'a>(
+    alloc: Global,
+    names: &[&'a str],
+    octets: &[&[u8]],
+) -> Result<Vec<(&'a str, Bytes)>, AllocError> {
+    let mut files = Vec::new(alloc);
+    for (name, file) in names.iter().zip(octets.iter()) {
+        files.push((*name, Bytes::copy_from_slice(alloc, file)?))?;
     }
-    Ok(octets)
+    Ok(files)
 }
 
 // Whether this is said. That memory ran out, also for a locator or a point, is handed on, unless it
@@ -315,46 +342,45 @@ fn is_said(said: (&str, &str, u8), wanted: (&str, &str, u8)) -> Result<bool, All
     Ok(is_same)
 }
 
-// Whether this is answered.
-fn is_wanted(answer: &Answer<'_>, wanted: &Wanted) -> Result<bool, AllocError> {
-    match (answer, wanted) {
-        (Answer::OutOfMemory, _) => Err(AllocError),
-        (Answer::BadLocator(bad), Wanted::Bad(name)) => Ok(bad == name),
-        (Answer::Reported { out, err, status }, Wanted::Reported(lines, refused, wanted)) => {
-            is_said(
-                (out.as_str(), err.as_str(), *status),
-                (lines, refused, *wanted),
-            )
-        }
-        _ => Ok(false),
+// Whether this is reported.
+fn is_wanted(report: &PayloadsReport, wanted: &Wanted) -> Result<bool, AllocError> {
+    match wanted {
+        Wanted::Bad(_) => Ok(false),
+        Wanted::Reported(lines, refused, status) => is_said(
+            (report.out.as_str(), report.err.as_str(), report.status),
+            (lines, refused, *status),
+        ),
     }
 }
 
-// What is answered over these folders.
-fn answer<F: Folders>(
+// Whether this is answered over these folders.
+fn answers<F: Folders>(
     alloc: Global,
     folders: &F,
     asked: &Asked,
-    files: &[Bytes],
+    files: &[(&str, Bytes)],
     moment: Time,
-) -> Answer<'static> {
-    let names = asked.3;
-    if files.len() != names.len() {
-        return Answer::WrongWords;
+    wanted: &Wanted,
+) -> Result<bool, AllocError> {
+    let (format, _, limit, _, _) = asked;
+    match locators_in(alloc, files) {
+        Err(LocatorFault::Memory) => Err(AllocError),
+        Err(LocatorFault::Bad(bad)) => Ok(matches!(wanted, Wanted::Bad(name) if *name == bad)),
+        Ok(locators) => {
+            let party = FolderParty {
+                folders,
+                crypto: &StandIn,
+                copy: "copy",
+                moment,
+                providers: ProviderLimit::Narrow,
+                limit: *limit,
+            };
+            is_wanted(
+                &report_payloads(alloc, &party, &locators, *format, &[])?,
+                wanted,
+            )
+        }
     }
-    let request = PayloadsRequest {
-        format: asked.0,
-        copy: Word("copy"),
-        moment,
-        providers: ProviderLimit::Narrow,
-        locators: Words(names),
-    };
-    let party = FolderParty {
-        folders,
-        crypto: &StandIn,
-        limit: asked.2,
-    };
-    party.answer(alloc, &request, files)
 }
 
 fn is_answered<F: Folders>(
@@ -363,10 +389,10 @@ fn is_answered<F: Folders>(
     asked: &Asked,
     wanted: &Wanted,
 ) -> Result<bool, AllocError> {
-    let files = octets_of(alloc, asked.4)?;
+    let files = files_of(alloc, asked.3, asked.4)?;
     match Time::utc(asked.1, 1, 1, 0, 0, 0) {
         None => Ok(false),
-        Some(moment) => is_wanted(&answer(alloc, folders, asked, &files, moment), wanted),
+        Some(moment) => answers(alloc, folders, asked, &files, moment, wanted),
     }
 }
 

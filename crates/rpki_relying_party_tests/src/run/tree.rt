@@ -19,7 +19,7 @@ use std::alloc::Global;
 
 /// The files of the tree. The certificate of the trust anchor is where `rpki-client` keeps it, and
 /// nothing stands at its URI.
-pub static FILES: [(&str, Result<&[u8], NoFile>); 13] = [
+pub static FILES: [(&str, Result<&[u8], NoFile>); 14] = [
     ("ta/one/t.cer", Ok(ANCHOR)),
     ("ta/large/t.cer", Err(NoFile::TooLarge)),
     ("ta/two/t.cer", Ok(b"none")),
@@ -33,6 +33,7 @@ pub static FILES: [(&str, Result<&[u8], NoFile>); 13] = [
     ("h/m/a/a.mft", Ok(MANIFEST)),
     ("h/m/a/a.roa", Ok(ROA)),
     ("h/m/a/a.asa", Ok(ASPA)),
+    ("ta/three/t.cer", Ok(ANCHOR)),
 ];
 
 /// What is refused of the tree.

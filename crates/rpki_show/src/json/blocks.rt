@@ -1,51 +1,37 @@
-//! The numbers that a content names.
+//! Numbers that a content or a certificate names, in JSON.
 
-ghost use Rattle.rpki_json.specs.Grows.{Grows};
-ghost use Rattle.rpki_json.specs.Members.{further_text};
-ghost use Rattle.rpki_show.specs.Json.Blocks.{as_member, ip_member, inherited_member};
-
-use crate::json::arrays::push_array;
-use rpki_json::{JsonString, push_item};
+use crate::json::values::{Members, put_texts};
 use rpki_resources::{AddressFamily, AsBlocks, IpBlocks};
+use serde_json::{json, put};
 use std::alloc::{AllocError, Global};
-use std::fmt::Write;
 
-/// Appends a member with the blocks of AS numbers. Refuses where memory runs out.
-pub fn push_as_blocks(
+/// Puts a list of blocks of AS numbers.
+pub fn put_as_blocks(
     alloc: Global,
-    text: &mut String,
+    members: &mut Members,
     name: &str,
     blocks: &AsBlocks,
-) -> Result<(), AllocError>
-    ensures { Grows result text.old text.new (further_text (as_member name.now blocks.now)) }
-{
-    push_array(text, name, blocks.iter(), |text, block| {
-        push_item(alloc, text, &block)
+) -> Result<(), AllocError> {
+    put_texts(alloc, members, name, blocks.iter(), |block| {
+        block.to_string(alloc)
     })
 }
 
-/// Appends a member with the blocks of addresses of this family. Refuses where memory runs out.
-pub fn push_ip_blocks(
+/// Puts a list of blocks of addresses of this family.
+pub fn put_ip_blocks(
     alloc: Global,
-    text: &mut String,
+    members: &mut Members,
     name: &str,
     family: AddressFamily,
     blocks: &IpBlocks,
-) -> Result<(), AllocError>
-    ensures { Grows result text.old text.new
-        (further_text (ip_member name.now family blocks.now)) }
-{
-    push_array(text, name, blocks.iter(), |text, block| {
-        push_item(alloc, text, &block.display(family))
+) -> Result<(), AllocError> {
+    put_texts(alloc, members, name, blocks.iter(), |block| {
+        block.display(family).to_string(alloc)
     })
 }
 
-/// Appends a member that says that blocks are inherited: an array of one word. Refuses where memory
-/// runs out.
-#[tactic(auto, unfolding(crate::specs::Json::Blocks::inherited_member, rpki_json::specs::Members::further_text, rpki_json::specs::Members::member_text))]
-pub fn push_inherited(text: &mut String, name: &str) -> Result<(), AllocError>
-    ensures { Grows result text.old text.new (further_text (inherited_member name.now)) }
-{
-    let name = JsonString(name);
-    write!(text, ", {name}: [\"inherit\"]")
+/// Puts, where blocks are inherited, a list of one word.
+pub fn put_inherited(alloc: Global, members: &mut Members, name: &str) -> Result<(), AllocError> {
+    let word = json!(in alloc; ["inherit"])?;
+    put(members, alloc, name, word)
 }

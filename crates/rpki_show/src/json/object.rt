@@ -1,54 +1,60 @@
 //! The members of a signed object.
 
-ghost use Rattle.std.specs.Prelude.{codes};
-ghost use Rattle.std.specs.List.{flat_map};
-ghost use Rattle.rpki_json.specs.Grows.{Grows};
-ghost use Rattle.rpki_json.specs.Members.{further_text};
-ghost use Rattle.rpki_sigobj.specs.Signed.{whole_of};
-ghost use Rattle.rpki_show.specs.Json.Named.{moment_member};
-ghost use Rattle.rpki_show.specs.Json.Object.{object_members, signed_members};
-
-use crate::json::certificate::push_signer;
-use crate::json::named::push_moment;
+use crate::json::certificate::put_signer;
+use crate::json::unshown::{Unshown, refusal, shown};
+use crate::json::values::{Members, put_shown};
 use crate::kinds::Lines;
+use bytes::Bytes;
+use rpki_cli::words::{Kind, Options};
+use rpki_files::{ManifestContent, ResourceSignedChecklist};
+use rpki_routes::{AsProviderAttestation, RouteOriginAttestation};
 use rpki_sigobj::Signed;
+use serde_json::Map;
 use std::alloc::{AllocError, Global};
 
-/// Appends the members of a signed object: those of its content, `signing_time`, and those of its
-/// signer's certificate. Refuses where memory runs out.
-pub fn push_object<C: Lines>(
+/// The members of the signed object of this kind at the front of the octets, if there is one: those
+/// of its content, `signing_time`, and those of its signer's certificate.
+pub fn object_members(
     alloc: Global,
-    text: &mut String,
-    object: &Signed<C>,
-) -> Result<(), AllocError>
-    ensures { Grows result text.old text.new
-        (flat_map further_text (object_members C.json (whole_of object.now))) }
-{
-    object.content().push_json(alloc, text)?;
-    push_signed(alloc, text, object)
+    options: Options,
+    kind: Kind,
+    octets: Bytes,
+) -> Result<Members, Unshown> {
+    match kind {
+        Kind::Aspa => of_kind::<AsProviderAttestation>(alloc, options, octets),
+        Kind::Manifest => of_kind::<ManifestContent>(alloc, options, octets),
+        Kind::Roa => of_kind::<RouteOriginAttestation>(alloc, options, octets),
+        Kind::Rsc => of_kind::<ResourceSignedChecklist>(alloc, options, octets),
+    }
 }
 
-/// Appends the moment of signing, and the certificate of the signer.
-fn push_signed<C: Lines>(
-    alloc: Global,
-    text: &mut String,
-    object: &Signed<C>,
-) -> Result<(), AllocError>
-    ensures { Grows result text.old text.new
-        (flat_map further_text (signed_members object.now.object.object)) }
-{
-    push_signing(alloc, text, object)?;
-    push_signer(alloc, text, object.cert())
+/// The members of the object with such a content at the front of the octets, if there is one.
+fn of_kind<C: Lines>(alloc: Global, options: Options, octets: Bytes) -> Result<Members, Unshown> {
+    match Signed::<C>::decode(alloc, octets, !options.relaxed, C::rule(options)) {
+        Err(error) => Err(refusal(alloc, error)),
+        Ok(object) => {
+            let members = of_object(alloc, &object);
+            drop(object);
+            members
+        }
+    }
 }
 
-/// Appends the moment of signing.
-fn push_signing<C: Lines>(
+/// The members of an object.
+fn of_object<C: Lines>(alloc: Global, object: &Signed<C>) -> Result<Members, Unshown> {
+    let mut members = Map::new(alloc);
+    let filled = put_object(alloc, &mut members, object);
+    shown(filled, members)
+}
+
+/// Puts the members of an object.
+fn put_object<C: Lines>(
     alloc: Global,
-    text: &mut String,
+    members: &mut Members,
     object: &Signed<C>,
-) -> Result<(), AllocError>
-    ensures { Grows result text.old text.new (further_text (moment_member (codes "signing_time")
-        object.now.object.object.signed.signer.attributes.signing_time)) }
-{
-    push_moment(alloc, text, "signing_time", object.signed().signing_time())
+) -> Result<(), AllocError> {
+    object.content().put_members(alloc, members)?;
+    let signed = object.signed().signing_time();
+    put_shown(alloc, members, "signing_time", &signed)?;
+    put_signer(alloc, members, object.cert())
 }

@@ -1,71 +1,34 @@
 //! The members of a ROA content.
 
-ghost use Rattle.std.specs.Prelude.{codes};
-ghost use Rattle.std.specs.List.{flat_map};
-ghost use Rattle.rpki_json.specs.Grows.{Grows};
-ghost use Rattle.rpki_json.specs.Members.{array_member, further_text};
-ghost use Rattle.rpki_json.specs.Text.{json_text};
-ghost use Rattle.rpki_routes.specs.Roa.{addresses};
-ghost use Rattle.rpki_show.specs.Json.Roa.{roa_members, prefix_members, vrp_value};
-
-use crate::json::arrays::push_array;
-use rpki_json::{push_first, push_number, push_shown};
+use crate::json::values::{Members, put_objects, put_shown};
 use rpki_resources::Asn;
 use rpki_routes::{FriendlyRoaIpAddress, RouteOriginAttestation};
+use serde_json::{Value, put};
 use std::alloc::{AllocError, Global};
-use std::fmt::Write;
 
-/// Appends the members of a ROA content: `vrps`, an array with an object for each prefix, those of
-/// IPv4 first. Refuses where memory runs out.
-pub fn push_roa(
+/// Puts `vrps`, a list with an object for each prefix, those of IPv4 first.
+pub fn put_roa(
     alloc: Global,
-    text: &mut String,
+    members: &mut Members,
     content: &RouteOriginAttestation,
-) -> Result<(), AllocError>
-    ensures { Grows result text.old text.new (flat_map further_text (roa_members content.now)) }
-{
-    push_vrps(alloc, text, content)
-}
-
-/// Appends the member of the prefixes.
-fn push_vrps(
-    alloc: Global,
-    text: &mut String,
-    content: &RouteOriginAttestation,
-) -> Result<(), AllocError>
-    ensures { Grows result text.old text.new (further_text (array_member (codes "vrps")
-        (vrp_value content.now.as_id) (addresses content.now))) }
-{
+) -> Result<(), AllocError> {
     let asn = content.as_id();
-    push_array(text, "vrps", content.iter(), |text, origin| {
-        push_vrp(alloc, text, asn, origin)
+    put_objects(alloc, members, "vrps", content.iter(), |members, origin| {
+        put_vrp(alloc, members, asn, origin)
     })
 }
 
-/// Appends the object of a prefix.
-fn push_vrp(
+/// Puts the origin, the prefix and its maximum length.
+fn put_vrp(
     alloc: Global,
-    text: &mut String,
+    members: &mut Members,
     asn: Asn,
     origin: FriendlyRoaIpAddress,
-) -> Result<(), AllocError>
-    ensures { Grows result text.old text.new (json_text (vrp_value asn origin)) }
-{
-    push_first(alloc, text, "asn", &asn)?;
-    push_prefix(alloc, text, origin)?;
-    write!(text, "}}")
-}
-
-/// Appends the members of a prefix: it and its maximum length.
-fn push_prefix(
-    alloc: Global,
-    text: &mut String,
-    origin: FriendlyRoaIpAddress,
-) -> Result<(), AllocError>
-    ensures { Grows result text.old text.new (flat_map further_text (prefix_members origin)) }
-{
+) -> Result<(), AllocError> {
+    put_shown(alloc, members, "asn", &asn)?;
     let prefix = origin.max_len_prefix();
     let prefix = prefix.prefix.display(prefix.family);
-    push_shown(alloc, text, "prefix", &prefix)?;
-    push_number(text, "maxLength", u64::from(origin.max_length()))
+    put_shown(alloc, members, "prefix", &prefix)?;
+    let max_length = Value::from(origin.max_length());
+    put(members, alloc, "maxLength", max_length)
 }

@@ -1,28 +1,25 @@
-use Rattle.std.proofs.Common.{ℕ, List, Ok, Err, inl, inr, refl, subst}
-use Rattle.rpki_check.specs.Attestation.{GrantsOn}
-use Rattle.rpki_check.proofs.Steps.{not-true}
+use Rattle.std.proofs.Common.{ℕ, List, Ok, Err, subst, refl}
+use Rattle.rpki_validation.specs.Attestation.{IsGrantedOn}
+use Rattle.rpki_validation.specs.declared.refusal.Refusal.TheVariants as causes
+use Rattle.rpki_check.proofs.Asking.{unlocated-rta}
 use Rattle.rpki_check.proofs.attestation.granted_on.Goals as goal
 
-pub returns-in-Err : goal.returns-in-Err
-returns-in-Err c = inl (
-    subst (λ (o : List ℕ). GrantsOn c.args.grounds.now o (Err c.in-Err.fault)) c.in-Ok.ensures
-    c.in-Err.ensures
-    )
+pub told_as-requires : goal.told_as-requires
+told_as-requires c =
+    unlocated-rta c.args.grounds.now c.in-Ok.source c.in-Err.refusal c.in-Err.ensures
 
-pub returns-then-is_unrevoked_on : goal.returns-then-is_unrevoked_on
-returns-then-is_unrevoked_on c = (
-  subst (λ (o : List ℕ). GrantsOn c.args.grounds.now o (Ok c.in-Ok-check_granted.rta))
-      c.in-Ok.ensures c.in-Ok-check_granted.ensures,
-  c.is_unrevoked_on.ensures.0 c.if-is_unrevoked_on.true,
-)
+pub returns-in_default : goal.returns-in_default
+returns-in_default c = (causes.Memory, tt, refl)
 
-pub returns-else-is_unrevoked_on : goal.returns-else-is_unrevoked_on
-returns-else-is_unrevoked_on c = inr (
-  refl,
-  (
-    c.in-Ok-check_granted.rta,
-    subst (λ (o : List ℕ). GrantsOn c.args.grounds.now o (Ok c.in-Ok-check_granted.rta))
-        c.in-Ok.ensures c.in-Ok-check_granted.ensures,
-    not-true c.is_unrevoked_on.result c.if-is_unrevoked_on.false c.is_unrevoked_on.ensures,
-  ),
+pub returns-in-Ok-granted_on : goal.returns-in-Ok-granted_on
+returns-in-Ok-granted_on c =
+    subst (λ (o : List ℕ). IsGrantedOn c.args.grounds.now o (Ok c.in-Ok-granted_on.rta))
+    c.in-Ok.ensures c.in-Ok-granted_on.ensures
+
+pub returns : goal.returns
+returns c = (
+  c.in-Err.refusal,
+  subst (λ (o : List ℕ). IsGrantedOn c.args.grounds.now o (Err c.in-Err.refusal)) c.in-Ok.ensures
+      c.in-Err.ensures,
+  c.told_as.ensures,
 )

@@ -1,6 +1,6 @@
 use Rattle.std.proofs.Common.{subst}
 use Rattle.rpki_check.specs.Calls.{IsShowCall}
-use Rattle.rpki_check.specs.declared.question.Manner.{Manner}
+use Rattle.rpki_validation.specs.declared.question.Manner.{Manner}
 use Rattle.rpki_check.proofs.exports.rpki_check_show.Goals as goal
 
 pub returns : goal.returns

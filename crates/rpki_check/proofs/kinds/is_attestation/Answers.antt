@@ -3,7 +3,7 @@ use Rattle.rpki_der.specs.declared.mode.Mode.TheVariants.{Der}
 use Rattle.rpki_der.specs.Form.Decodes.{IsOnlyFront}
 use Rattle.rpki_multi.specs.Multi.{MultiForm, multi_of}
 use Rattle.rpki_check.proofs.Naming.{no-attestation}
-use Rattle.rpki_check.proofs.Steps.{false-only}
+use Rattle.rpki_validation.proofs.Steps.{false-only}
 use Rattle.rpki_check.proofs.kinds.is_attestation.Goals as goal
 
 pub returns-in-Err-Malformed : goal.returns-in-Err-Malformed

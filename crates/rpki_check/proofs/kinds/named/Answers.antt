@@ -1,7 +1,7 @@
 use Rattle.std.proofs.Common.{inr, refl}
 use Rattle.rpki_sigobj.specs.Object.{mode_of}
 use Rattle.rpki_check.proofs.Naming.{none-named}
-use Rattle.rpki_check.proofs.Steps.{not-true}
+use Rattle.rpki_validation.proofs.Steps.{not-true}
 use Rattle.rpki_check.proofs.kinds.named.Goals as goal
 
 pub returns-else-is : goal.returns-else-is

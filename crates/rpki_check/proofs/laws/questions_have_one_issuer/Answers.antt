@@ -1,4 +1,4 @@
-use Rattle.rpki_check.proofs.Single.{not-refused, one-grounds}
+use Rattle.rpki_check.proofs.Asking.{not-refused, one-grounds}
 use Rattle.rpki_check.proofs.laws.questions_have_one_issuer.Goals as goal
 
 pub returns-clause-one : goal.returns-clause-one

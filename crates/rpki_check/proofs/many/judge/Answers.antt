@@ -2,7 +2,7 @@ use Rattle.std.proofs.Common.{ℕ, List, inr, refl, subst}
 use Rattle.std.specs.List.{AllZip}
 use Rattle.rpki_check.specs.Many.{IsStatusOn}
 use Rattle.rpki_check.specs.Room.{IsInRoom}
-use Rattle.rpki_check.specs.declared.question.Manner.{Manner}
+use Rattle.rpki_validation.specs.declared.question.Manner.{Manner}
 use Rattle.rpki_check.proofs.many.judge.Goals as goal
 
 pub returns-in-Ok-statuses : goal.returns-in-Ok-statuses

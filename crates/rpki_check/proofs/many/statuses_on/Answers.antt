@@ -3,7 +3,7 @@ use Rattle.std.specs.List.{AllZip}
 use Rattle.std.proofs.lemmas.List.{take_all}
 use Rattle.rpki_check.specs.Many.{IsStatusOn}
 use Rattle.rpki_check.specs.declared.many.Object.{Object}
-use Rattle.rpki_check.proofs.Steps.{zip-more}
+use Rattle.rpki_validation.proofs.Steps.{zip-more}
 use Rattle.rpki_check.proofs.many.statuses_on.Goals as goal
 
 pub loop-object-preserved : goal.loop-object-preserved

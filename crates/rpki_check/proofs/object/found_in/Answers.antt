@@ -1,7 +1,7 @@
 use Rattle.std.proofs.Common.{inl, inr, refl, subst}
 use Rattle.rpki_sigobj.specs.Object.{mode_of}
 use Rattle.rpki_check.specs.Object.{IsFoundOn}
-use Rattle.rpki_check.specs.declared.question.Manner.{Manner}
+use Rattle.rpki_validation.specs.declared.question.Manner.{Manner}
 use Rattle.rpki_check.proofs.object.found_in.Goals as goal
 
 pub returns-in-Err : goal.returns-in-Err

@@ -1,5 +1,5 @@
 use Rattle.rpki_command.proofs.Same.{yes-or-no}
-use Rattle.rpki_command.proofs.Verified.Anchored.{granted-or-not}
+use Rattle.rpki_command.proofs.Anchored.{granted-or-not}
 use Rattle.rpki_command.proofs.laws.yes_and_no_exclude_each_other.Goals as goal
 
 pub returns-clause-checks : goal.returns-clause-checks

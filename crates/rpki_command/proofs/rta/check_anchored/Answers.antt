@@ -7,7 +7,7 @@ use Rattle.rpki_command.proofs.rta.check_anchored.Goals as goal
 
 pub returns-in-Ok : goal.returns-in-Ok
 returns-in-Ok g c =
-    subst (λ (supplied : List Supply). AttestedUnder c.args.causes
+    subst (λ (supplied : List Supply). AttestedUnder
     g.K.Crypto.digest_of g.K.Crypto.is_signed c.args.crypto.now c.args.now supplied
     c.args.object.now (said c.check_supplied.result))
     (ap (map supply_in) c.deref.ensures.value ∙ c.in-Ok.ensures) c.check_supplied.ensures

@@ -3,12 +3,12 @@ use Rattle.rpki_verdicts.specs.Verdicts.{AreVerdicts}
 use Rattle.rpki_cli.specs.Answer.{said}
 use Rattle.rpki_cli.specs.Words.{texts}
 use Rattle.rpki_command.specs.Rta.{RtaOf}
-use Rattle.rpki_command.proofs.Verified.Verifying.{of-files}
+use Rattle.rpki_command.proofs.Checking.{of-two}
 use Rattle.rpki_command.proofs.rta.check_files.Goals as goal
 
 pub returns-in-Some : goal.returns-in-Some
 returns-in-Some c =
-    of-files (λ (fs : List (List ℕ)).
+    of-two (λ (fs : List (List ℕ)).
     RtaOf c.args.now (texts c.args.words.now) fs (said c.check_rta.result))
     c.args.files.now c.object-item.result c.verdicts-item.result c.in-len2-up.len_at_least
     c.object-item.is c.verdicts-item.is

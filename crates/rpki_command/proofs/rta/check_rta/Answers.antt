@@ -11,7 +11,7 @@ pub returns-in-Ok : goal.returns-in-Ok
 returns-in-Ok g c = (
   Ok c.in-Ok.anchors,
   c.in-Ok.ensures,
-  subst (λ (anchors : List Anchor). AttestedUnder c.args.causes
+  subst (λ (anchors : List Anchor). AttestedUnder
       g.K.Crypto.digest_of g.K.Crypto.is_signed c.args.crypto.now c.args.now
       (map supply_of anchors) c.args.object.now (said c.check_anchored-answer.result))
       c.deref.ensures.value c.check_anchored-answer.ensures,

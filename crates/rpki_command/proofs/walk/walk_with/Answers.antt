@@ -20,7 +20,7 @@ returns-in-Ok g c = (
   subst (λ (chain : List (List ℕ)). MakesIssuer (g.K.Crypto.is_signed c.args.crypto.now) c.args.now
       c.args.anchor.now chain (Ok c.in-Ok.issuer)) c.cut_others-hand.ensures.certs
       c.in-Ok.ensures,
-  subst (λ (hand : List AtHand). WalkedUnder c.args.causes c.args.options
+  subst (λ (hand : List AtHand). WalkedUnder c.args.options
       (g.K.Crypto.digest_of c.args.crypto.now) (g.K.Crypto.is_signed c.args.crypto.now)
       c.in-Ok.issuer c.args.now hand c.args.object.now (said c.walk_under-answer.result))
       c.cut_others-hand.ensures.hand c.walk_under-answer.ensures,

@@ -1,5 +1,5 @@
-use Rattle.rpki_payloads.proofs.Tables.{table-is}
+use Rattle.rpki_payloads.proofs.Tabled.{table-reads}
 use Rattle.rpki_payloads.proofs.laws.tables_say_their_origins.Goals as goal
 
 pub returns : goal.returns
-returns c = λ found. table-is found
+returns c = table-reads

@@ -12,10 +12,10 @@ loop-one-preserved g c =
     rw items
     (run-more (λ (x : NamedLocator). IsOutcomeUnder
     (party_of g.F.Folders.finds g.C.Crypto.digest_of g.C.Crypto.is_signed c.args.party.now)
-    c.args.request.now x.name.now x.locator) c.args.locators.now c.loop-one.one-index
+    x.name.now x.locator) c.args.locators.now c.loop-one.one-index
     c.one-item.result c.loop-one.outcomes.items c.run_named.result c.loop-one-test.true
     c.loop-one.invariant
     (subst (λ (x : NamedLocator). IsOutcomeUnder
     (party_of g.F.Folders.finds g.C.Crypto.digest_of g.C.Crypto.is_signed c.args.party.now)
-    c.args.request.now x.name.now x.locator c.run_named.result) c.one-item.is
+    x.name.now x.locator c.run_named.result) c.one-item.is
     c.run_named.ensures))

@@ -1,0 +1,10 @@
+use Rattle.std.proofs.Common.{ap, ◌∙◌}
+use Rattle.serde_json.specs.Written.{has_float}
+use Rattle.rpki_payloads.proofs.Written.{aspa_plain}
+use Rattle.rpki_payloads.proofs.formats.json_text.push_aspa.Goals as goal
+
+pub returns : goal.returns
+returns c =
+    let value = c.in_ok-value.ensures in
+    rw value at (c.push_value.ensures (ap has_float value
+    ∙ aspa_plain c.args.form c.args.group.now))

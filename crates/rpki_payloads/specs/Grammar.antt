@@ -1,2 +1,0 @@
--- The grammar of the tables that are written.
-pub mod Csv

@@ -1,0 +1,14 @@
+mod Anchored
+mod Asked
+mod Checking
+mod Entries
+mod Filing
+mod Foldered
+mod Indenting
+mod Kinded
+mod Lined
+mod Paying
+mod Running
+mod Saying
+mod Splits
+mod Yes

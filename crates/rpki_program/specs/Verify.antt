@@ -1,0 +1,15 @@
+pub mod Check
+pub mod Copies
+pub mod Entry
+pub mod Files
+pub mod Inputs
+pub mod Items
+pub mod Judged
+pub mod Kinds
+pub mod Payloads
+pub mod Report
+pub mod Requests
+pub mod Rta
+pub mod Run
+pub mod Time
+pub mod Words

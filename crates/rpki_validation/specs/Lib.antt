@@ -1,0 +1,9 @@
+pub mod Attestation
+pub mod Grounds
+pub mod Issuer
+pub mod Kinds
+pub mod Locator
+pub mod Object
+pub mod Refusal
+pub mod RevocationList
+pub mod Revoked
