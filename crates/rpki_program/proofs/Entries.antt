@@ -1,9 +1,9 @@
 -- Entries of files.
-use Rattle.std.proofs.Common.{◌≡◌, ℕ, List, Result, Ok, Err, refl, subst, sym}
+use Rattle.std.proofs.Common.{◌≡◌, ◌++◌, ℕ, List, Result, Ok, Err, codes, refl, subst, sym}
 use Rattle.std.specs.Prelude.{IfOk, String, string_bytes}
 use Rattle.std.specs.declared.alloc.AllocError.{AllocError}
 use Rattle.std.specs.declared.alloc.Global.{Global}
-use Rattle.rpki_cli.specs.Store.{IsRead, Told}
+use Rattle.rpki_cli.specs.Store.{IsRead, Told, reason_text}
 use Rattle.rpki_cli.specs.declared.store.Reason.{Reason}
 use Rattle.rpki_cli.specs.declared.store.StoreError.TheVariants.{Unreadable}
 use Rattle.rpki_validation.specs.declared.grounds.Grounds.{Grounds}
@@ -21,39 +21,37 @@ use Rattle.rpki_program.specs.declared.verify.request.FileKind.{FileKind}
 
 module _ (told : Told) (r : CheckRequest) (q : Question) (g : Grounds) (name : List ℕ) where
   -- a no has such an entry, for this cause
-  denied-entry : (cause : String Global) (v : Verdict)
-      → SaysRight (No cause) → IsVerdict told r q g name (No cause) v
+  denied-entry : (cause : String Global) (v : Verdict) → IsVerdict told r q g name (No cause) v
       → (made : Result Entry AllocError)
       → IfOk made (λ e. IsText r.json (is_several r) name (No cause) (string_bytes e.text))
       → IfOk made (λ e. e.verdict ≡ v) → IfOk made (λ e. IsEntry told r q g name e)
-  denied-entry cause v says verdict (Ok e) text is = record {
+  denied-entry cause v verdict (Ok e) text is = record {
     judged = No cause;
-    says = says;
     text = text;
     verdict = subst (λ (w : Verdict). IsVerdict told r q g name (No cause) w) (sym is) verdict;
   }
-  denied-entry cause v says verdict (Err e) text is = tt
+  denied-entry cause v verdict (Err e) text is = tt
 
-  pub skipped-entry : (cause : String Global) → SaysRight (No cause)
-      → ((kind : FileKind) → IsKindOf r.kind name kind → ⊥) → (made : Result Entry AllocError)
+  pub skipped-entry : (cause : String Global)
+      → string_bytes cause ≡ codes "skipped: no kind that is checked" → ((kind : FileKind) → IsKindOf r.kind name kind → ⊥) → (made : Result Entry AllocError)
       → IfOk made (λ e. IsText r.json (is_several r) name (No cause) (string_bytes e.text))
       → IfOk made (λ e. e.verdict ≡ verdicts.Skipped)
       → IfOk made (λ e. IsEntry told r q g name e)
   skipped-entry cause says none made text is =
-      denied-entry cause verdicts.Skipped says (refl, none) made text is
+      denied-entry cause verdicts.Skipped ((cause, refl, says), none) made text is
 
-  pub unreadable-entry : (cause : String Global) → SaysRight (No cause) → (reason : Reason)
-      → IsRead (told name) (Err (Unreadable reason)) → (made : Result Entry AllocError)
+  pub unreadable-entry : (cause : String Global) (reason : Reason)
+      → string_bytes cause ≡ codes "cannot be read" ++ reason_text reason → IsRead (told name) (Err (Unreadable reason)) → (made : Result Entry AllocError)
       → IfOk made (λ e. IsText r.json (is_several r) name (No cause) (string_bytes e.text))
       → IfOk made (λ e. e.verdict ≡ verdicts.Unreadable)
       → IfOk made (λ e. IsEntry told r q g name e)
-  unreadable-entry cause says reason read made text is =
-      denied-entry cause verdicts.Unreadable says (refl, (reason, read)) made text is
+  unreadable-entry cause reason says read made text is =
+      denied-entry cause verdicts.Unreadable (reason, (cause, refl, says), read) made text is
 
-  verdict-of : (j : Judged) → IsJudgedFile told r q g name j
+  verdict-of : (j : Judged) → SaysRight j → IsJudgedFile told r q g name j
       → IsVerdict told r q g name j (verdict_of j)
-  verdict-of (Yes lines) h = (refl, h)
-  verdict-of (No cause) h = (refl, h)
+  verdict-of (Yes lines) says h = (refl, h)
+  verdict-of (No cause) says h = (refl, says, h)
 
   -- the entry of a file that is read
   pub read-entry : (kind : FileKind) (octets : List ℕ) → IsKindOf r.kind name kind
@@ -62,10 +60,9 @@ module _ (told : Told) (r : CheckRequest) (q : Question) (g : Grounds) (name : L
       → IfOk made (λ e. IsEntry told r q g name e)
   read-entry kind octets is read (Ok e) h = record {
     judged = h.judged;
-    says = h.says;
     text = h.text;
     verdict = subst (λ (w : Verdict). IsVerdict told r q g name h.judged w) (sym h.verdict)
-        (verdict-of h.judged (record {
+        (verdict-of h.judged h.says (record {
           kind = kind;
           is_kind = is;
           octets = octets;

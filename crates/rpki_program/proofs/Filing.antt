@@ -66,7 +66,7 @@ good-files r g kinds.Locator octets S h = absurd h
 pub object-filed : (r : FilesRequest) (g : Grounds) (f : Folder) (kind : FileKind) (octets : List ℕ)
     (files : List Listed) → ((S : List Listed → Type 0) → S files → IsGoodWith r g kind octets S)
     → (made : Result Report AllocError)
-    → IfOk made (λ x. (compared : ℕ) × IsSaidOf r.json compared (string_bytes x.out) x.status
+    → IfOk made (λ x. (compared : ℕ) × IsSaidOf r compared (string_bytes x.out) x.status
     × AreHeld f files compared)
     → IfOk made (λ x. IsObjectReport r g f kind octets (string_bytes x.out) x.status)
 object-filed r g f kind octets files good (Ok x) h =
@@ -98,7 +98,7 @@ module _ (told : Told) (named : Named) (r : FilesRequest) (moment : Moment) wher
   }
 
   -- the answer is no
-  no-filed : (text : List ℕ) (status : ℕ) → IsNo r.json text status
+  no-filed : (text : List ℕ) (status : ℕ) → IsNo r text status
       → IsNoOfFiles told named r moment → IsFilesReport told named r moment text status
   no-filed text status h why = record {
     right = record {
@@ -112,7 +112,7 @@ module _ (told : Told) (named : Named) (r : FilesRequest) (moment : Moment) wher
 
   pub ungrounded-filed : (q : Question) (refusal : Refusal) (text : List ℕ) (status : ℕ)
       → IsQuestionOf told r.under moment r.manner q → HasNoGrounds q refusal
-      → IsUngrounded r.json refusal text status → IsFilesReport told named r moment text status
+      → IsUngrounded r refusal text status → IsFilesReport told named r moment text status
   ungrounded-filed q refusal text status asked none (inl h) = nothing-filed text status h
   ungrounded-filed q refusal text status asked none (inr h) =
       no-filed text status h.0 (inl (q, asked, (refusal, none, h.1)))
@@ -138,7 +138,7 @@ module _ (told : Told) (named : Named) (r : FilesRequest) (moment : Moment) wher
 
     compared-filed : (kind : FileKind) (octets : List ℕ) (names : List (List ℕ))
         (compared : ℕ) (text : List ℕ) (status : ℕ) → IsObject told r kind octets
-        → named r.folder.now names → status ≡ compared → IsAnswer r.json (compared == 0) text
+        → named r.folder.now names → status ≡ compared → IsAnswer r.json r.object.now (compared == 0) text
         → IsGoodWith r g kind octets (λ files. AreHeld (folder_of told r names) files compared)
         → (compared ≡ 0) ⊎ ((compared ≡ 1) ⊎ (compared ≡ 4))
         → IsFilesReport told named r moment text status
@@ -152,7 +152,7 @@ module _ (told : Told) (named : Named) (r : FilesRequest) (moment : Moment) wher
             no = λ e. absurd (omega (arith, s, z, e));
             known = omega (arith, s, z);
           };
-          yes_text = λ e. subst (λ (b : Bool). IsAnswer r.json b text)
+          yes_text = λ e. subst (λ (b : Bool). IsAnswer r.json r.object.now b text)
               (ap (λ (n : ℕ). n == 0) z) answer;
           no_text = inl (s ∙ z);
         }
@@ -168,7 +168,7 @@ module _ (told : Told) (named : Named) (r : FilesRequest) (moment : Moment) wher
             known = omega (arith, s, z);
           };
           yes_text = λ e. absurd (omega (arith, s, z, e));
-          no_text = inr (inr (subst (λ (b : Bool). IsAnswer r.json b text)
+          no_text = inr (inr (subst (λ (b : Bool). IsAnswer r.json r.object.now b text)
               (ap (λ (n : ℕ). n == 0) z) answer));
         }
     compared-filed kind octets names compared text status object are_named s answer good
@@ -179,7 +179,7 @@ module _ (told : Told) (named : Named) (r : FilesRequest) (moment : Moment) wher
             known = omega (arith, s, z);
           };
           yes_text = λ e. absurd (omega (arith, s, z, e));
-          no_text = inr (inr (subst (λ (b : Bool). IsAnswer r.json b text)
+          no_text = inr (inr (subst (λ (b : Bool). IsAnswer r.json r.object.now b text)
               (ap (λ (n : ℕ). n == 0) z) answer));
         }
 
@@ -206,7 +206,7 @@ module _ (told : Told) (named : Named) (r : FilesRequest) (moment : Moment) wher
   pub ungrounded-files : (q : Question) (refusal : Refusal)
       → IsQuestionOf told r.under moment r.manner q → HasNoGrounds q refusal
       → (made : Result Report AllocError)
-      → IfOk made (λ x. IsUngrounded r.json refusal (string_bytes x.out) x.status)
+      → IfOk made (λ x. IsUngrounded r refusal (string_bytes x.out) x.status)
       → IfOk made (λ x. IsFilesReport told named r moment (string_bytes x.out) x.status)
   ungrounded-files q refusal asked none (Ok x) h =
       ungrounded-filed q refusal (string_bytes x.out) x.status asked none h

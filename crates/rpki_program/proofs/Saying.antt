@@ -9,7 +9,7 @@ use Rattle.rpki_cli.specs.Answer.{Run}
 use Rattle.rpki_der.specs.Write.Sink.{AppendsFront}
 use Rattle.rpki_program.specs.Verify.Entry.{SaysRight}
 use Rattle.rpki_program.specs.Verify.Report.{IsCut, IsPut, IsSaid, IsSilent, IsWritten}
-use Rattle.rpki_program.specs.Verify.Report.{SaysNoYes}
+use Rattle.rpki_program.specs.Verify.Report.{SaysNot, SaysNoYes}
 use Rattle.rpki_program.specs.declared.verify.check.judged.Judged.TheVariants.{No}
 use Rattle.rpki_program.specs.declared.verify.report.Report.{Report}
 
@@ -67,46 +67,44 @@ cut-said report run h s = of (complained 2 report run h s)
 -- ---- texts that are no yes
 
 -- a text with another first letter does not begin so
-other-first : (c : ℕ) (rest : List ℕ) → (c ≡ 121 → ⊥) → SaysNoYes (c ∷ rest)
-other-first c rest h more e = h (first e)
+other-first : (c d : ℕ) (rest word : List ℕ) → (c ≡ d → ⊥) → SaysNot (d ∷ word) (c ∷ rest)
+other-first c d rest word h more e = h (first e)
   where
     head : List ℕ → ℕ
     head [] = 0
     head (x ∷ xs) = x
 
-    first : c ∷ rest ≡ codes "yes" ++ more → c ≡ 121
+    first : c ∷ rest ≡ d ∷ (word ++ more) → c ≡ d
     first s = subst (λ (l : List ℕ). c ≡ head l) s refl
 
--- a cause that begins with another letter is no yes
-cause-first : (cause : String Global) (c : ℕ) (rest : List ℕ) → (c ≡ 121 → ⊥)
-    → string_bytes cause ≡ c ∷ rest → SaysRight (No cause)
-cause-first cause c rest h e =
-    subst (λ (l : List ℕ). SaysNoYes (l ++ codes "\n")) (sym e)
-    (other-first c (rest ++ codes "\n") h)
+-- a cause that begins with another letter than `yes`, `skipped` and `cannot be read` is right
+cause-first : (cause : String Global) (c : ℕ) (rest : List ℕ) → (c ≡ 121 → ⊥) → (c ≡ 115 → ⊥)
+    → (c ≡ 99 → ⊥) → string_bytes cause ≡ c ∷ rest → SaysRight (No cause)
+cause-first cause c rest y s r e = (not 121 _ y, not 115 _ s, not 99 _ r)
+  where
+    not : (d : ℕ) (word : List ℕ) → (c ≡ d → ⊥)
+        → SaysNot (d ∷ word) (string_bytes cause ++ codes "\n")
+    not d word h = subst (λ (l : List ℕ). SaysNot (d ∷ word) (l ++ codes "\n")) (sym e)
+        (other-first c d (rest ++ codes "\n") word h)
 
 pub begins-r : (cause : String Global) (rest : List ℕ) → string_bytes cause ≡ 114 ∷ rest
     → SaysRight (No cause)
-begins-r cause rest e = cause-first cause 114 rest (λ s. omega (arith, s)) e
+begins-r cause rest e = cause-first cause 114 rest (λ s. omega (arith, s)) (λ s. omega (arith, s))
+    (λ s. omega (arith, s)) e
 
 pub begins-m : (cause : String Global) (rest : List ℕ) → string_bytes cause ≡ 109 ∷ rest
     → SaysRight (No cause)
-begins-m cause rest e = cause-first cause 109 rest (λ s. omega (arith, s)) e
+begins-m cause rest e = cause-first cause 109 rest (λ s. omega (arith, s)) (λ s. omega (arith, s))
+    (λ s. omega (arith, s)) e
 
 pub begins-i : (cause : String Global) (rest : List ℕ) → string_bytes cause ≡ 105 ∷ rest
     → SaysRight (No cause)
-begins-i cause rest e = cause-first cause 105 rest (λ s. omega (arith, s)) e
+begins-i cause rest e = cause-first cause 105 rest (λ s. omega (arith, s)) (λ s. omega (arith, s))
+    (λ s. omega (arith, s)) e
 
-pub begins-c : (cause : String Global) (rest : List ℕ) → string_bytes cause ≡ 99 ∷ rest
-    → SaysRight (No cause)
-begins-c cause rest e = cause-first cause 99 rest (λ s. omega (arith, s)) e
-
-pub begins-s : (cause : String Global) (rest : List ℕ) → string_bytes cause ≡ 115 ∷ rest
-    → SaysRight (No cause)
-begins-s cause rest e = cause-first cause 115 rest (λ s. omega (arith, s)) e
-
-pub ruleset by_first_letter = (begins-r, begins-m, begins-i, begins-c, begins-s)
+pub ruleset by_first_letter = (begins-r, begins-m, begins-i)
 
 -- a no of the other kind: it begins with `no`
 pub begins-n : (text rest : List ℕ) → text ≡ 110 ∷ rest → SaysNoYes text
 begins-n text rest e = subst (λ (l : List ℕ). SaysNoYes l) (sym e)
-    (other-first 110 rest (λ s. omega (arith, s)))
+    (other-first 110 121 rest _ (λ s. omega (arith, s)))

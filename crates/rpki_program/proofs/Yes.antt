@@ -56,7 +56,7 @@ module _ (told : Told) (r : CheckRequest) (q : Question) (g : Grounds) where
   known-by : (name : List ℕ) (j : Judged) (v : Verdict) → IsVerdict told r q g name j v
       → status_of v ≤ 1 → IsGoodFile told r q g name ⊎ IsBadFile told r q g name
   known-by name j verdicts.Yes h l = inl (yes-file name j h.0 h.1)
-  known-by name j verdicts.No h l = inr (no-file name j h.0 h.1)
+  known-by name j verdicts.No h l = inr (no-file name j h.0 h.2)
   known-by name j verdicts.Skipped h l = inr (inr h.1)
   known-by name j verdicts.Unreadable h l = absurd (too-much 4 1 l (omega arith))
 
@@ -67,7 +67,7 @@ module _ (told : Told) (r : CheckRequest) (q : Question) (g : Grounds) where
   bad-by : (name : List ℕ) (j : Judged) (v : Verdict) → IsVerdict told r q g name j v
       → 1 ≡ status_of v → IsBadFile told r q g name
   bad-by name j verdicts.Yes h l = absurd (omega (arith, l))
-  bad-by name j verdicts.No h l = no-file name j h.0 h.1
+  bad-by name j verdicts.No h l = no-file name j h.0 h.2
   bad-by name j verdicts.Skipped h l = inr h.1
   bad-by name j verdicts.Unreadable h l = absurd (omega (arith, l))
 

@@ -12,6 +12,7 @@ pub mod laws;
 mod messages;
 pub mod options;
 pub mod payloads;
+mod places;
 pub mod report;
 pub mod request;
 pub mod rta;

@@ -1,6 +1,6 @@
 -- What a check of files writes, and its status.
 use Rattle.std.specs.Prelude.{◌≡◌, ℕ, ◌≤◌, ◌⊎◌, List, [], ◌∷◌, ◌++◌, All, Any, Bool, true, false}
-use Rattle.std.specs.Prelude.{Err, Option, String, length, string_bytes}
+use Rattle.std.specs.Prelude.{Err, Option, String, codes, string_bytes}
 use Rattle.std.specs.Borrow.{Bor}
 use Rattle.std.specs.Io.KnownBytes.{Appends}
 use Rattle.std.specs.List.{AllZip, flat_map}
@@ -21,7 +21,7 @@ use Rattle.rpki_program.specs.Verify.Entry.{IsEntry, IsJudgedFile, status_of}
 use Rattle.rpki_program.specs.Verify.Inputs.{HasNoAnswer, IsQuestionOf}
 use Rattle.rpki_program.specs.Verify.Judged.{IsJudged}
 use Rattle.rpki_program.specs.Verify.Kinds.{IsKindOf}
-use Rattle.rpki_program.specs.Verify.Report.{IsCut, IsLine, IsPut, IsStopped, SaysNoYes}
+use Rattle.rpki_program.specs.Verify.Report.{IsCut, IsLine, IsPut, IsStopped}
 use Rattle.rpki_program.specs.declared.verify.check.entry.Entry.{Entry}
 use Rattle.rpki_program.specs.declared.verify.check.judged.Judged.TheVariants.{No, Yes}
 use Rattle.rpki_program.specs.declared.verify.request.CheckRequest.{CheckRequest}
@@ -73,11 +73,12 @@ IsRunOver told r q g files before after status =
     ⊎ AreWritten told r q g files before after status
 
 -- Where a question has no grounds, this is said of these files: in JSON a line for each, which says
--- that it is not good; else a no.
+-- that it is not good; else once that the issuer is refused, and why.
 abbrev pub AreNoLines : Bool → List (Bor (List ℕ)) → List ℕ → Type 0
-AreNoLines false files text = SaysNoYes text
-AreNoLines true files text = (lines : List (List ℕ)) × (length lines ≡ length files)
-    × All (IsLine false) lines × (text ≡ flat_map (λ l. l) lines)
+AreNoLines false files text = (why : List ℕ) × (text ≡ codes "issuer refused: " ++ why)
+AreNoLines true files text = (lines : List (List ℕ))
+    × AllZip (λ (f : Bor (List ℕ)) (l : List ℕ). IsLine f.now false l) files lines
+    × (text ≡ flat_map (λ l. l) lines)
 
 -- what is reported then: what is to be a locator or a list is none, or this, and not for want of
 -- memory

@@ -1,14 +1,15 @@
 -- The entry of a file among those of a check.
 use Rattle.std.specs.Prelude.{◌≡◌, ℕ, List, [], ◌∷◌, ◌++◌, ◌==◌, Bool, true, false, not, Ok, Err}
-use Rattle.std.specs.Prelude.{codes, if◌then◌else◌, length, string_bytes}
-use Rattle.rpki_cli.specs.Store.{IsRead, Told}
+use Rattle.std.specs.Prelude.{String, codes, if◌then◌else◌, length, string_bytes}
+use Rattle.std.specs.declared.alloc.Global.{Global}
+use Rattle.rpki_cli.specs.Store.{IsRead, Told, reason_text}
 use Rattle.rpki_cli.specs.declared.store.Reason.{Reason}
 use Rattle.rpki_cli.specs.declared.store.StoreError.TheVariants.{Unreadable}
 use Rattle.rpki_validation.specs.declared.grounds.Grounds.{Grounds}
 use Rattle.rpki_validation.specs.declared.question.Question.{Question}
 use Rattle.rpki_program.specs.Verify.Judged.{IsJudged, is_yes}
 use Rattle.rpki_program.specs.Verify.Kinds.{IsKindOf}
-use Rattle.rpki_program.specs.Verify.Report.{IsLine, SaysNoYes}
+use Rattle.rpki_program.specs.Verify.Report.{IsLine, SaysNoYes, SaysNot}
 use Rattle.rpki_program.specs.declared.verify.check.entry.Entry.{Entry}
 use Rattle.rpki_program.specs.declared.verify.check.entry.Verdict.{Verdict}
 use Rattle.rpki_program.specs.declared.verify.check.entry.Verdict.TheVariants as verdicts
@@ -54,13 +55,19 @@ entry_text false name j = said_of j
 
 -- an entry as a text, in JSON or in lines
 abbrev pub IsText : Bool → Bool → List ℕ → Judged → List ℕ → Type 0
-IsText true several name j text = IsLine (is_yes j) text
+IsText true several name j text = IsLine name (is_yes j) text
 IsText false several name j text = text ≡ entry_text several name j
 
--- where it is no yes, its lines are none either
+-- where it is no yes, its lines are none either, and they don't say that the file is passed over
 abbrev pub SaysRight : Judged → Type 0
 SaysRight (Yes lines) = Unit {0}
 SaysRight (No cause) = SaysNoYes (said_of (No cause))
+    × SaysNot (codes "skipped") (said_of (No cause))
+    × SaysNot (codes "cannot be read") (said_of (No cause))
+
+-- it is no yes, and this is its cause
+abbrev pub IsNoFor : List ℕ → Judged → Type 0
+IsNoFor cause j = (text : String Global) × (j ≡ No text) × (string_bytes text ≡ cause)
 
 -- ---- entries
 
@@ -88,20 +95,21 @@ pub record HasEntry (r : CheckRequest) (q : Question) (g : Grounds) (name : List
   pub verdict : e.verdict ≡ verdict_of judged
 
 -- Of the file of this name such a verdict is right, where this is said of it: a yes or a no by its
--- kind and the octets that the store tells of it; or that it can't be read, or is of no kind that is
--- checked.
+-- kind and the octets that the store tells of it; or that it can't be read, and why, or is of no kind
+-- that is checked.
 abbrev pub IsVerdict : Told → CheckRequest → Question → Grounds → List ℕ → Judged → Verdict → Type 0
 IsVerdict told r q g name j verdicts.Yes = (is_yes j ≡ true) × IsJudgedFile told r q g name j
-IsVerdict told r q g name j verdicts.No = (is_yes j ≡ false) × IsJudgedFile told r q g name j
+IsVerdict told r q g name j verdicts.No =
+    (is_yes j ≡ false) × SaysRight j × IsJudgedFile told r q g name j
 IsVerdict told r q g name j verdicts.Unreadable =
-    (is_yes j ≡ false) × ((reason : Reason) × IsRead (told name) (Err (Unreadable reason)))
-IsVerdict told r q g name j verdicts.Skipped =
-    (is_yes j ≡ false) × ((kind : FileKind) → IsKindOf r.kind name kind → ⊥)
+    (reason : Reason) × IsNoFor (codes "cannot be read" ++ reason_text reason) j
+    × IsRead (told name) (Err (Unreadable reason))
+IsVerdict told r q g name j verdicts.Skipped = IsNoFor (codes "skipped: no kind that is checked") j
+    × ((kind : FileKind) → IsKindOf r.kind name kind → ⊥)
 
 -- This is the entry of the file of this name: what is said of it, as a text, and its verdict.
 pub record IsEntry (told : Told) (r : CheckRequest) (q : Question) (g : Grounds) (name : List ℕ)
     (e : Entry) : Type 0 where
   pub judged : Judged
-  pub says : SaysRight judged
   pub text : IsText r.json (is_several r) name judged (string_bytes e.text)
   pub verdict : IsVerdict told r q g name judged e.verdict

@@ -199,29 +199,29 @@ IsRefused r g kind octets = ⊥
 -- ---- the answer
 
 -- it is a no
-abbrev pub IsNo : Bool → List ℕ → ℕ → Type 0
-IsNo json text status = (status ≡ 1) × IsAnswer json false text
+abbrev pub IsNo : FilesRequest → List ℕ → ℕ → Type 0
+IsNo r text status = (status ≡ 1) × IsAnswer r.json r.object.now false text
 
 -- there is none: the run is stopped, and nothing is said
 abbrev pub IsNoAnswer : List ℕ → ℕ → Type 0
 IsNoAnswer text status = IsStopped status × (text ≡ [])
 
 -- this is said of a good object, of whose files a folder has what has this status
-abbrev pub IsSaidOf : Bool → ℕ → List ℕ → ℕ → Type 0
-IsSaidOf json compared text status =
-    (status ≡ compared) × IsAnswer json (compared == 0) text
+abbrev pub IsSaidOf : FilesRequest → ℕ → List ℕ → ℕ → Type 0
+IsSaidOf r compared text status =
+    (status ≡ compared) × IsAnswer r.json r.object.now (compared == 0) text
 
 -- where a question has no grounds for this: a no only where that is not for want of memory
-abbrev pub IsUngrounded : Bool → Refusal → List ℕ → ℕ → Type 0
-IsUngrounded json refusal text status =
-    IsNoAnswer text status ⊎ (IsNo json text status × (is_memory refusal ≡ false))
+abbrev pub IsUngrounded : FilesRequest → Refusal → List ℕ → ℕ → Type 0
+IsUngrounded r refusal text status =
+    IsNoAnswer text status ⊎ (IsNo r text status × (is_memory refusal ≡ false))
 
 -- what is reported of an object of this kind with these octets: it is refused, or good, and the
 -- folder has its files or not
 abbrev pub IsObjectReport : FilesRequest → Grounds → Folder → FileKind → List ℕ → List ℕ → ℕ → Type 0
 IsObjectReport r g f kind octets text status =
-    (IsNo r.json text status × IsRefused r g kind octets)
-    ⊎ ((compared : ℕ) × IsSaidOf r.json compared text status
+    (IsNo r text status × IsRefused r g kind octets)
+    ⊎ ((compared : ℕ) × IsSaidOf r compared text status
     × IsGoodWith r g kind octets (λ files. AreHeld f files compared))
 
 -- The object is a file of this kind by its name, and the store tells these octets of it, or any
@@ -274,5 +274,5 @@ IsNoOfFiles told named r moment =
 pub record IsFilesReport (told : Told) (named : Named) (r : FilesRequest) (moment : Moment)
     (text : List ℕ) (status : ℕ) : Type 0 where
   pub right : IsRight (IsYesOfFiles told named r moment) (IsNoOfFiles told named r moment) status
-  pub yes_text : status ≡ 0 → IsAnswer r.json true text
-  pub no_text : IsNoUnlessZero r.json text status
+  pub yes_text : status ≡ 0 → IsAnswer r.json r.object.now true text
+  pub no_text : IsNoUnlessZero r.json r.object.now text status

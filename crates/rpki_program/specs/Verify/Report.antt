@@ -1,12 +1,14 @@
 -- What a command answers, how it is written, and what a status says.
 use Rattle.std.specs.Prelude.{◌≡◌, ◌⊎◌, ◌≤◌, ℕ, List, [], ◌++◌, Bool, true, false, Result, Ok, Err}
-use Rattle.std.specs.Prelude.{Option, Some, String, codes, string_bytes}
-use Rattle.std.specs.BTreeMap.{BTreeMap}
+use Rattle.std.specs.Prelude.{Option, Some, String, codes, string_bytes, string_cmp}
+use Rattle.json.specs.Lex.{tokens}
+use Rattle.json.specs.Print.{print}
+use Rattle.std.specs.BTreeMap.{BTreeMap, IsOrdered}
 use Rattle.std.specs.Io.KnownBytes.{Appends}
 use Rattle.std.specs.declared.alloc.AllocError.{AllocError}
 use Rattle.std.specs.declared.alloc.Global.{Global}
-use Rattle.serde_json.specs.Data.{Data, boolean, object}
-use Rattle.serde_json.specs.Find.{get}
+use Rattle.serde_json.specs.Data.{boolean, object, string}
+use Rattle.serde_json.specs.Find.{get_member}
 use Rattle.serde_json.specs.View.{members_view}
 use Rattle.serde_json.specs.Written.{IsInOrder}
 use Rattle.serde_json.specs.declared.value.Value.{Value}
@@ -36,34 +38,42 @@ pub record IsRight (Yes No : Type 0) (status : ℕ) : Type 0 where
 
 -- ---- texts
 
+-- a text that does not begin so
+abbrev pub SaysNot : List ℕ → List ℕ → Type 0
+SaysNot front text = (rest : List ℕ) → text ≡ front ++ rest → ⊥
+
 -- a text that is no yes: it does not begin with `yes`
 abbrev pub SaysNoYes : List ℕ → Type 0
-SaysNoYes text = (rest : List ℕ) → text ≡ codes "yes" ++ rest → ⊥
+SaysNoYes text = SaysNot (codes "yes") text
 
--- the text is the line of an object of JSON (RFC 8259) with these members
-pub record IsLineOf (members : BTreeMap (String Global) Value) (text : String Global) : Type 0 where
-  pub line : List ℕ
-  pub text_is : string_bytes text ≡ line ++ codes "\n"
-  pub is_text : IsInOrder line (object (members_view members.entries))
-
--- The text is a line of JSON (RFC 8259): an object whose member `valid` says whether it is a yes.
-pub record IsLine (valid : Bool) (text : List ℕ) : Type 0 where
+-- The text is the line of an object of JSON (RFC 8259) with these members: their names ascend, so
+-- that each is there once, and no white space stands between its parts.
+pub record IsLineOf (members : BTreeMap (String Global) Value) (text : List ℕ) : Type 0 where
+  pub ascend : IsOrdered string_cmp members
   pub line : List ℕ
   pub text_is : text ≡ line ++ codes "\n"
-  pub value : Data
-  pub is_text : IsInOrder line value
-  pub valid_is : get (codes "valid") value ≡ Some (boolean valid)
+  pub is_text : IsInOrder line (object (members_view members.entries))
+  pub is_dense : line ≡ print (tokens line)
 
--- the text of an answer: in JSON a line whose member `valid` says it; else a yes begins with the line
--- `yes`, and a no does not
-abbrev pub IsAnswer : Bool → Bool → List ℕ → Type 0
-IsAnswer true good text = IsLine good text
-IsAnswer false true text = (rest : List ℕ) × (text ≡ codes "yes\n" ++ rest)
-IsAnswer false false text = SaysNoYes text
+-- The text is such a line, of the file of this name: its member `file` is the name, and its member
+-- `valid` says whether it is a yes.
+pub record IsLine (name : List ℕ) (valid : Bool) (text : List ℕ) : Type 0 where
+  pub members : BTreeMap (String Global) Value
+  pub is_line : IsLineOf members text
+  pub file_is : get_member (codes "file") (members_view members.entries) ≡ Some (string name)
+  pub valid_is : get_member (codes "valid") (members_view members.entries) ≡ Some (boolean valid)
+
+-- the text of an answer for the file of this name: in JSON such a line; else a yes begins with the
+-- line `yes`, and a no does not
+abbrev pub IsAnswer : Bool → List ℕ → Bool → List ℕ → Type 0
+IsAnswer true name good text = IsLine name good text
+IsAnswer false name true text = (rest : List ℕ) × (text ≡ codes "yes\n" ++ rest)
+IsAnswer false name false text = SaysNoYes text
 
 -- where the status is not 0, the text is that of a no, or there is none
-abbrev pub IsNoUnlessZero : Bool → List ℕ → ℕ → Type 0
-IsNoUnlessZero json text status = (status ≡ 0) ⊎ ((text ≡ []) ⊎ IsAnswer json false text)
+abbrev pub IsNoUnlessZero : Bool → List ℕ → List ℕ → ℕ → Type 0
+IsNoUnlessZero json name text status =
+    (status ≡ 0) ⊎ ((text ≡ []) ⊎ IsAnswer json name false text)
 
 -- where a question has no grounds for this: in lines a no, and not for want of memory, or else the
 -- status 2 and no text

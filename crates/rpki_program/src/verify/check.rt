@@ -3,6 +3,7 @@
 
 pub mod cause;
 mod entry;
+pub mod hint;
 pub mod json;
 pub mod judged;
 
@@ -51,7 +52,7 @@ pub fn check<S: Store, O: Sink, E: Sink>(
             let question = question_of(&inputs, moment, request.manner);
             match grounds_of(alloc, &question) {
                 Err(refusal) => {
-                    let report = refused(alloc, request, &refusal);
+                    let report = refused(alloc, request, &question, &refusal);
                     drop(refusal);
                     say(report, out, err)
                 }
@@ -59,7 +60,7 @@ pub fn check<S: Store, O: Sink, E: Sink>(
                     let on = Basis {
                         question: &question,
                         grounds: &grounds,
-                        lists: &request.under.crls,
+                        files: &request.under,
                     };
                     let status = check_each(alloc, request, &on, &request.files, store, out);
                     noted(alloc, request, &on, status, err)
@@ -99,6 +100,7 @@ fn check_each<S: Store, O: Sink>(
 fn refused(
     alloc: Global,
     request: &CheckRequest<'_>,
+    question: &Question<'_>,
     refusal: &Refusal,
 ) -> Result<Report, AllocError>
     ensures { IfOk result (λ r. IsUngrounded request.now refusal.now (string_bytes r.out) r.status) }
@@ -107,7 +109,10 @@ fn refused(
         return Err(AllocError);
     }
     match refusal {
-        Refusal::Issuer(fault) => { Ok(Report::shown(alloc, unissued(alloc, request, fault)?, 1)) }
+        Refusal::Issuer(fault) => {
+            let text = unissued(alloc, request, question, fault)?;
+            Ok(Report::shown(alloc, text, 1))
+        }
         _ => bad_input(alloc, &request.under, refusal),
     }
 }
@@ -116,12 +121,13 @@ fn refused(
 fn unissued(
     alloc: Global,
     request: &CheckRequest<'_>,
+    question: &Question<'_>,
     fault: &IssuerFault,
 ) -> Result<String, AllocError>
     ensures { IfOk result (λ text. AreNoLines request.now.json request.now.files.items
         (string_bytes text)) }
 {
-    let cause = issuer_cause(alloc, &request.under, fault)?;
+    let cause = issuer_cause(alloc, question, &request.under, fault)?;
     if request.json {
         no_lines(alloc, request, &request.files, &cause)
     } else {
@@ -153,7 +159,7 @@ fn no_line(
     name: &str,
     cause: &str,
 ) -> Result<String, AllocError>
-    ensures { IfOk result (λ text. IsLine false (string_bytes text)) }
+    ensures { IfOk result (λ text. IsLine name.now false (string_bytes text)) }
 {
     let word = match kind_of_file(request.kind, name) {
         Some(kind) => kind.word(),
@@ -186,7 +192,7 @@ fn noted<E: Sink>(
             Err(_) => return write_no_memory(err),
             Ok(true) => {}
             Ok(false) => {
-                let name = name_at(on.lists, i);
+                let name = name_at(&on.files.crls, i);
                 if complain(b"no CA for list ", name, "", 0, err) != 0 {
                     return FAILED;
                 }

@@ -14,6 +14,7 @@ ghost use Rattle.rpki_program.specs.declared.verify.request.FileKind.{FileKind a
 ghost use Rattle.rpki_program.specs.declared.verify.request.FileKind.TheVariants as kinds;
 
 use crate::verify::check::cause::{bad_input, cause_of, issuer_cause, unread_report};
+use crate::verify::check::hint::{Issuer, of_object};
 use crate::verify::check::json::{no_line, state_line};
 use crate::verify::folders::{Compared, Folder, Wanted, compare, push_unlisted};
 use crate::verify::inputs::{question_of, read_inputs, read_one};
@@ -27,6 +28,7 @@ use rpki_cli::{Reason, Store, StoreError, Unread};
 use rpki_files::{ManifestContent, ResourceSignedChecklist};
 use rpki_validation::grounds::{Grounds, grounds_of};
 use rpki_validation::object::found_on;
+use rpki_validation::question::Question;
 use rpki_validation::refusal::Refusal;
 use std::alloc::{AllocError, Global};
 use std::fmt::Write;
@@ -51,7 +53,7 @@ pub fn files<S: Store, Y: System>(
             let question = question_of(&inputs, moment, request.manner);
             match grounds_of(alloc, &question) {
                 Err(refusal) => {
-                    let report = ungrounded(alloc, request, &refusal);
+                    let report = ungrounded(alloc, request, &question, &refusal);
                     drop(refusal);
                     report
                 }
@@ -69,9 +71,10 @@ pub fn files<S: Store, Y: System>(
 fn ungrounded(
     alloc: Global,
     request: &FilesRequest<'_>,
+    question: &Question<'_>,
     refusal: &Refusal,
 ) -> Result<Report, AllocError>
-    ensures { IfOk result (λ r. IsUngrounded request.now.json refusal.now (string_bytes r.out)
+    ensures { IfOk result (λ r. IsUngrounded request.now refusal.now (string_bytes r.out)
         r.status) }
 {
     if refusal.is_memory() {
@@ -79,7 +82,7 @@ fn ungrounded(
     }
     match refusal {
         Refusal::Issuer(fault) => {
-            let cause = issuer_cause(alloc, &request.under, fault)?;
+            let cause = issuer_cause(alloc, question, &request.under, fault)?;
             not_good(alloc, request, "", cause)
         }
         _ => bad_input(alloc, &request.under, refusal),
@@ -159,7 +162,7 @@ fn manifest<S: Store>(
         octets.now (string_bytes r.out) r.status) }
 {
     match found_on::<ManifestContent>(alloc, octets, request.manner, grounds) {
-        Err(refusal) => refused(alloc, request, octets, "manifest", refusal),
+        Err(refusal) => refused(alloc, request, grounds, octets, "manifest", refusal),
         Ok(manifest) => {
             let report = compared_manifest(alloc, request, &manifest, found, store);
             drop(manifest);
@@ -177,7 +180,7 @@ fn compared_manifest<S: Store>(
     store: &mut S,
 ) -> Result<Report, AllocError>
     ensures { IfOk result (λ r. (compared : ℕ)
-        × IsSaidOf request.now.json compared (string_bytes r.out) r.status
+        × IsSaidOf request.now compared (string_bytes r.out) r.status
         × AreHeld (folder_of (S.told store.old) request.now
         (map string_bytes found.now.names.items)) (listed manifest.now) compared) }
 {
@@ -206,7 +209,7 @@ fn checklist<S: Store>(
         (string_bytes r.out) r.status) }
 {
     match found_on::<ResourceSignedChecklist>(alloc, octets, request.manner, grounds) {
-        Err(refusal) => refused(alloc, request, octets, "rsc", refusal),
+        Err(refusal) => refused(alloc, request, grounds, octets, "rsc", refusal),
         Ok(checklist) => {
             let report = compared_checklist(alloc, request, &checklist, names, store);
             drop(checklist);
@@ -224,7 +227,7 @@ fn compared_checklist<S: Store>(
     store: &mut S,
 ) -> Result<Report, AllocError>
     ensures { IfOk result (λ r. (compared : ℕ)
-        × IsSaidOf request.now.json compared (string_bytes r.out) r.status
+        × IsSaidOf request.now compared (string_bytes r.out) r.status
         × AreHeld (folder_of (S.told store.old) request.now (map string_bytes names.now))
         (checked checklist.now) compared) }
 {
@@ -275,16 +278,33 @@ fn files_of_checklist(
 fn refused(
     alloc: Global,
     request: &FilesRequest<'_>,
+    grounds: &Grounds,
     octets: &Bytes,
     word: &str,
     refusal: Refusal,
 ) -> Result<Report, AllocError>
-    ensures no { IfOk result (λ r. IsNo request.now.json (string_bytes r.out) r.status) }
+    ensures no { IfOk result (λ r. IsNo request.now (string_bytes r.out) r.status) }
     ensures memory { OnOk result (is_memory refusal ≡ false) }
 {
-    let cause = cause_of(alloc, octets, &request.under.crls, &refusal);
+    let cause = object_cause(alloc, request, grounds, octets, &refusal);
     drop(refusal);
     not_good(alloc, request, word, cause?)
+}
+
+/// Why the object is not good.
+fn object_cause(
+    alloc: Global,
+    request: &FilesRequest<'_>,
+    grounds: &Grounds,
+    octets: &Bytes,
+    refusal: &Refusal,
+) -> Result<String, AllocError>
+    ensures memory { OnOk result (is_memory refusal.now ≡ false) }
+    ensures says { IfOk result (λ cause. SaysRight (No cause)) }
+{
+    let issuer = Issuer::on(grounds, &request.under);
+    let hint = of_object(alloc, &issuer, request.manner, octets, refusal)?;
+    cause_of(alloc, octets, &request.under.crls, refusal, &hint)
 }
 
 /// That there is no good object of this kind, for this cause.
@@ -295,7 +315,7 @@ fn not_good(
     cause: String,
 ) -> Result<Report, AllocError>
     requires { SaysRight (No cause) }
-    ensures { IfOk result (λ r. IsNo request.now.json (string_bytes r.out) r.status) }
+    ensures { IfOk result (λ r. IsNo request.now (string_bytes r.out) r.status) }
 {
     let out = no_text(alloc, request, word, &cause)?;
     Ok(Report::shown(alloc, out, 1))
@@ -309,7 +329,8 @@ fn no_text(
     cause: &String,
 ) -> Result<String, AllocError>
     requires { SaysRight (No cause.now) }
-    ensures { IfOk result (λ text. IsAnswer request.now.json false (string_bytes text)) }
+    ensures { IfOk result (λ text. IsAnswer request.now.json request.now.object.now false
+        (string_bytes text)) }
 {
     if request.json {
         no_line(alloc, request.object, word, cause)
@@ -325,7 +346,7 @@ fn report(
     word: &str,
     compared: &Compared,
 ) -> Result<Report, AllocError>
-    ensures { IfOk result (λ r. IsSaidOf request.now.json compared.now.status
+    ensures { IfOk result (λ r. IsSaidOf request.now compared.now.status
         (string_bytes r.out) r.status) }
 {
     let lines = &compared.lines;

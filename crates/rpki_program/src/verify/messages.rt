@@ -1,6 +1,7 @@
 //! Why a file has no content to show or check, in words that say what to do.
 
-ghost use Rattle.std.specs.Prelude.{IfOk};
+ghost use Rattle.std.specs.Prelude.{◌≡◌, ◌++◌, IfOk, codes, string_bytes};
+ghost use Rattle.rpki_cli.specs.Store.{reason_text};
 ghost use Rattle.rpki_program.specs.Verify.Entry.{SaysRight};
 ghost use Rattle.rpki_program.specs.declared.verify.check.judged.Judged.TheVariants.{No};
 
@@ -12,7 +13,8 @@ const PEM: &[u8] = b"-----BEGIN ";
 
 /// That a file can't be read.
 pub fn unreadable(alloc: Global, reason: Reason) -> Result<String, AllocError>
-    ensures { IfOk result (λ cause. SaysRight (No cause)) }
+    ensures { IfOk result (λ cause.
+        string_bytes cause ≡ codes "cannot be read" ++ reason_text reason) }
 {
     format!(in alloc; "cannot be read{}", reason.text())
 }

@@ -9,6 +9,7 @@ ghost use Rattle.rpki_program.specs.Verify.Report.{IsStopped};
 
 use crate::verify::check::cause::{bad_locator, name_at, unread_report};
 use crate::verify::inputs::{read_each, read_one};
+use crate::verify::places::push_places;
 use crate::verify::report::{FAILED, Report};
 use crate::verify::request::PayloadsRequest;
 use bytes::Bytes;
@@ -114,7 +115,14 @@ fn report_after<F: Folders>(
         limit: request.limit.unwrap_or(MOST_WORK),
     };
     let report = report_payloads(alloc, &party, locators, request.format, exceptions)?;
-    let PayloadsReport { out, err, status } = report;
+    let PayloadsReport {
+        out,
+        mut err,
+        status,
+    } = report;
+    if status != 0 {
+        push_places(alloc, &mut err, request.copy, locators, folders)?;
+    }
     Ok(Report { out, err, status })
 }
 

@@ -24,7 +24,7 @@ use rpki_tal::Tal;
 use rpki_validation::attestation::check_supplied;
 use rpki_validation::grounds::{Grounds, grounds_of};
 use rpki_validation::locator::locator_in;
-use rpki_validation::question::Manner;
+use rpki_validation::question::{Manner, Question};
 use rpki_validation::refusal::Refusal;
 use std::alloc::{AllocError, Global};
 
@@ -180,7 +180,7 @@ fn issued<S: Store>(
             match grounds_of(alloc, &question) {
                 Ok(grounds) => Ok(Ok(Anchor::Ca(grounds))),
                 Err(refusal) => {
-                    let report = unissued(alloc, under, &refusal);
+                    let report = unissued(alloc, &question, under, &refusal);
                     drop(refusal);
                     Ok(Err(report?))
                 }
@@ -190,7 +190,12 @@ fn issued<S: Store>(
 }
 
 /// That certificates make no issuer.
-fn unissued(alloc: Global, under: &IssuerFiles<'_>, refusal: &Refusal) -> Result<Report, AllocError>
+fn unissued(
+    alloc: Global,
+    question: &Question<'_>,
+    under: &IssuerFiles<'_>,
+    refusal: &Refusal,
+) -> Result<Report, AllocError>
     ensures { IfOk result (λ r. IsRefused refusal.now (string_bytes r.out) r.status) }
 {
     if refusal.is_memory() {
@@ -198,7 +203,7 @@ fn unissued(alloc: Global, under: &IssuerFiles<'_>, refusal: &Refusal) -> Result
     }
     match refusal {
         Refusal::Issuer(fault) => {
-            let cause = issuer_cause(alloc, under, fault)?;
+            let cause = issuer_cause(alloc, question, under, fault)?;
             no(alloc, &cause)
         }
         _ => bad_input(alloc, under, refusal),
@@ -219,7 +224,7 @@ fn granted(
     match check_supplied(alloc, octets.clone()?, &supplies, moment) {
         Err(fault) => {
             let refusal = Refusal::Check(fault);
-            let cause = cause_of(alloc, octets, &[], &refusal);
+            let cause = cause_of(alloc, octets, &[], &refusal, "");
             drop(refusal);
             no(alloc, &cause?)
         }

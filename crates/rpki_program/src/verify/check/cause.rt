@@ -1,12 +1,13 @@
 //! Why a file is not good, in words.
 
-ghost use Rattle.std.specs.Prelude.{◌≡◌, [], IfOk, OnOk, false, string_bytes};
+ghost use Rattle.std.specs.Prelude.{◌≡◌, ◌++◌, ℕ, List, [], IfOk, OnOk, codes, false, string_bytes};
 ghost use Rattle.rpki_validation.specs.Locator.{is_memory_of_locator};
 ghost use Rattle.rpki_validation.specs.Refusal.{is_memory, is_memory_at_ca};
 ghost use Rattle.rpki_validation.specs.RevocationList.{is_memory_of_list};
 ghost use Rattle.rpki_program.specs.Verify.Entry.{SaysRight};
 ghost use Rattle.rpki_program.specs.declared.verify.check.judged.Judged.TheVariants.{No};
 
+use crate::verify::check::hint::of_link;
 use crate::verify::messages::malformed;
 use crate::verify::report::{FAILED, Report, UNREADABLE};
 use crate::verify::request::IssuerFiles;
@@ -14,19 +15,20 @@ use bytes::Bytes;
 use rpki_certs::IssuerError;
 use rpki_cli::Unread;
 use rpki_der::DecodeError;
-use rpki_faults::{ValidationError, VerificationError};
 use rpki_signed::check::CheckError;
 use rpki_validation::locator::LocatorFault;
+use rpki_validation::question::Question;
 use rpki_validation::refusal::{CaFault, IssuerFault, Refusal};
 use rpki_validation::revocation_list::{ListCheck, ListFault};
 use std::alloc::{AllocError, Global};
 
-/// Why there is no good object. Refuses where it is for want of memory.
+/// Why there is no good object, and this hint. Refuses where it is for want of memory.
 pub fn cause_of(
     alloc: Global,
     octets: &Bytes,
     lists: &[&str],
     refusal: &Refusal,
+    hint: &str,
 ) -> Result<String, AllocError>
     ensures memory { OnOk result (is_memory refusal.now ≡ false) }
     ensures says { IfOk result (λ cause. SaysRight (No cause)) }
@@ -34,7 +36,7 @@ pub fn cause_of(
     if refusal.is_memory() {
         Err(AllocError)
     } else {
-        Ok(refused(alloc, octets, lists, refusal)?)
+        Ok(refused(alloc, octets, lists, refusal, hint)?)
     }
 }
 
@@ -44,6 +46,7 @@ fn refused(
     octets: &Bytes,
     lists: &[&str],
     refusal: &Refusal,
+    hint: &str,
 ) -> Result<String, AllocError>
     ensures { IfOk result (λ cause. SaysRight (No cause)) }
 {
@@ -56,17 +59,19 @@ fn refused(
         _ => {
             let mut text = String::from_str(alloc, "refused: ")?;
             refusal.push(&mut text)?;
+            text.push_str(hint)?;
             Ok(text)
         }
     }
 }
 
-/// Why a certificate is none of a CA. Refuses where it is for want of memory.
+/// Why a certificate is none of a CA, and this hint. Refuses where it is for want of memory.
 pub fn ca_cause(
     alloc: Global,
     octets: &Bytes,
     lists: &[&str],
     fault: &CaFault,
+    hint: &str,
 ) -> Result<String, AllocError>
     ensures memory { OnOk result (is_memory_at_ca fault.now ≡ false) }
     ensures says { IfOk result (λ cause. SaysRight (No cause)) }
@@ -74,7 +79,7 @@ pub fn ca_cause(
     if fault.is_memory() {
         Err(AllocError)
     } else {
-        Ok(ca_refused(alloc, octets, lists, fault)?)
+        Ok(ca_refused(alloc, octets, lists, fault, hint)?)
     }
 }
 
@@ -84,12 +89,15 @@ fn ca_refused(
     octets: &Bytes,
     lists: &[&str],
     fault: &CaFault,
+    hint: &str,
 ) -> Result<String, AllocError>
     ensures { IfOk result (λ cause. SaysRight (No cause)) }
 {
     match fault {
         CaFault::Error(IssuerError::Decode(error)) => not_decoded(alloc, octets, error),
-        CaFault::Error(IssuerError::Validation(error)) => format!(in alloc; "refused: {error}"),
+        CaFault::Error(IssuerError::Validation(error)) => {
+            format!(in alloc; "refused: {error}{hint}")
+        }
         CaFault::Revoked(place) => {
             let list = name_at(lists, *place);
             format!(in alloc; "refused: revoked by {list}")
@@ -152,18 +160,22 @@ pub fn locator_cause(alloc: Global, fault: LocatorFault) -> Result<String, Alloc
 /// Why certificates make no issuer, and which of their files is refused.
 pub fn issuer_cause(
     alloc: Global,
+    question: &Question<'_>,
     under: &IssuerFiles<'_>,
     fault: &IssuerFault,
 ) -> Result<String, AllocError>
-    ensures { IfOk result (λ cause. SaysRight (No cause)) }
+    ensures refused { IfOk result (λ cause. (why : List ℕ)
+        × (string_bytes cause ≡ codes "issuer refused: " ++ why)) }
+    ensures says { IfOk result (λ cause. SaysRight (No cause)) }
 {
-    let why = file_refused(alloc, under, fault)?;
+    let why = file_refused(alloc, question, under, fault)?;
     format!(in alloc; "issuer refused: {why}")
 }
 
 /// Which of their files is refused, and why.
 fn file_refused(
     alloc: Global,
+    question: &Question<'_>,
     under: &IssuerFiles<'_>,
     fault: &IssuerFault,
 ) -> Result<String, AllocError> {
@@ -173,28 +185,29 @@ fn file_refused(
             let (ta, tal) = (under.ta, under.tal.unwrap_or("the locator"));
             format!(in alloc; "{ta}: key is not that of {tal}")
         }
-        IssuerFault::Chain(place, CaFault::Error(error)) => {
-            let why = unissued(alloc, name_at(&under.cas, *place), error)?;
-            if is_of_another(error) {
-                format!(in alloc; "{why}: give its CA before it, with --ca")
-            } else {
-                Ok(why)
-            }
-        }
-        IssuerFault::Chain(place, CaFault::Revoked(list)) => {
-            let ca = name_at(&under.cas, *place);
-            let list = name_at(&under.crls, *list);
-            format!(in alloc; "{ca}: revoked by {list}")
-        }
+        IssuerFault::Chain(place, fault) => link_refused(alloc, question, under, *place, fault),
     }
 }
 
-/// Whether a certificate is one of another issuer.
-fn is_of_another(error: &IssuerError) -> bool {
-    match error {
-        IssuerError::Validation(ValidationError::Verification(VerificationError::IssuerClaim)) =>
-            true,
-        _ => false,
+/// Why the certificate at this place of the chain is none of a CA, and its file.
+fn link_refused(
+    alloc: Global,
+    question: &Question<'_>,
+    under: &IssuerFiles<'_>,
+    place: usize,
+    fault: &CaFault,
+) -> Result<String, AllocError> {
+    let ca = name_at(&under.cas, place);
+    match fault {
+        CaFault::Error(error) => {
+            let mut why = unissued(alloc, ca, error)?;
+            why.push_str(&of_link(alloc, question, under, place, fault)?)?;
+            Ok(why)
+        }
+        CaFault::Revoked(list) => {
+            let list = name_at(&under.crls, *list);
+            format!(in alloc; "{ca}: revoked by {list}")
+        }
     }
 }
 

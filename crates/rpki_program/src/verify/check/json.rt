@@ -1,7 +1,7 @@
 //! The line of JSON of a file.
 
 ghost use Rattle.std.specs.Prelude.{◌≡◌, IfOk, OnOk, Some, codes, false, string_bytes};
-ghost use Rattle.serde_json.specs.Data.{boolean};
+ghost use Rattle.serde_json.specs.Data.{boolean, string};
 ghost use Rattle.serde_json.specs.Find.{get_member};
 ghost use Rattle.serde_json.specs.View.{members_view};
 ghost use Rattle.rpki_program.specs.Verify.Judged.{is_yes};
@@ -31,7 +31,7 @@ pub fn line_of(
     octets: &Bytes,
     judged: &Judged,
 ) -> Result<String, AllocError>
-    ensures { IfOk result (λ text. IsLine (is_yes judged.now) (string_bytes text)) }
+    ensures { IfOk result (λ text. IsLine name.now (is_yes judged.now) (string_bytes text)) }
 {
     match judged {
         Judged::No(cause) => no_line(alloc, name, kind.word(), cause),
@@ -44,7 +44,7 @@ pub fn line_of(
 
 /// The line of a file of this name and type that is not good, for this cause.
 pub fn no_line(alloc: Global, name: &str, word: &str, cause: &str) -> Result<String, AllocError>
-    ensures { IfOk result (λ text. IsLine false (string_bytes text)) }
+    ensures { IfOk result (λ text. IsLine name.now false (string_bytes text)) }
 {
     let mut members = Map::new(alloc);
     put_text(alloc, &mut members, "reason", cause)?;
@@ -60,7 +60,7 @@ pub fn state_line(
     valid: bool,
     lines: &str,
 ) -> Result<String, AllocError>
-    ensures { IfOk result (λ text. IsLine valid (string_bytes text)) }
+    ensures { IfOk result (λ text. IsLine name.now valid (string_bytes text)) }
 {
     let mut members = Map::new(alloc);
     put_lines(alloc, &mut members, lines)?;
@@ -124,7 +124,7 @@ fn line_with(
     word: &str,
     valid: bool,
 ) -> Result<String, AllocError>
-    ensures { IfOk result (λ text. IsLine valid (string_bytes text)) }
+    ensures { IfOk result (λ text. IsLine name.now valid (string_bytes text)) }
 {
     let mut members = members;
     match put_verdict(alloc, &mut members, name, word, valid) {
@@ -144,7 +144,9 @@ fn put_verdict(
     word: &str,
     valid: bool,
 ) -> Result<(), AllocError>
-    ensures { OnOk result (get_member (codes "valid") (members_view members.new.entries)
+    ensures file { OnOk result (get_member (codes "file") (members_view members.new.entries)
+        ≡ Some (string name.now)) }
+    ensures valid { OnOk result (get_member (codes "valid") (members_view members.new.entries)
         ≡ Some (boolean valid)) }
 {
     put_named(alloc, members, name, word)?;
@@ -158,15 +160,20 @@ pub fn put_named(
     members: &mut Members,
     name: &str,
     word: &str,
-) -> Result<(), AllocError> {
-    put_text(alloc, members, "file", name)?;
-    put_text(alloc, members, "type", word)
+) -> Result<(), AllocError>
+    ensures { OnOk result (get_member (codes "file") (members_view members.new.entries)
+        ≡ Some (string name.now)) }
+{
+    put_text(alloc, members, "type", word)?;
+    put_text(alloc, members, "file", name)
 }
 
 /// The line of an object with these members.
 pub fn object_line(alloc: Global, members: Members) -> Result<String, AllocError>
-    ensures { IfOk result (IsLineOf members) }
+    ensures { IfOk result (λ text. IsLineOf members (string_bytes text)) }
 {
+    // Its contract says that the names ascend.
+    let _ = members.len();
     let object = Value::Object(members);
     let line = object.to_string(alloc);
     drop(object);
@@ -180,7 +187,10 @@ fn put_text(
     members: &mut Members,
     name: &str,
     text: &str,
-) -> Result<(), AllocError> {
+) -> Result<(), AllocError>
+    ensures { OnOk result (get_member name.now (members_view members.new.entries)
+        ≡ Some (string text.now)) }
+{
     let text = String::from_str(alloc, text)?;
     put(members, alloc, name, Value::String(text))
 }

@@ -1,13 +1,16 @@
 //! What is said of a file of a kind on the grounds of a question.
 
-ghost use Rattle.std.specs.Prelude.{◌≡◌, IfOk, string_bytes};
+ghost use Rattle.std.specs.Prelude.{◌≡◌, IfOk, OnOk, false, string_bytes};
 ghost use Rattle.rpki_sigobj.specs.Object.{mode_of};
+ghost use Rattle.rpki_validation.specs.Refusal.{is_memory, is_memory_at_ca};
 ghost use Rattle.rpki_program.specs.Verify.Entry.{SaysRight};
 ghost use Rattle.rpki_program.specs.Verify.Judged.{IsCaJudged, IsJudged, IsJudgedAs, IsListJudged};
 ghost use Rattle.rpki_program.specs.Verify.Judged.{IsLocatorJudged, IsRtaJudged, is_yes};
+ghost use Rattle.rpki_program.specs.declared.verify.check.judged.Judged.TheVariants.{No};
 
 use crate::verify::check::cause::{ca_cause, cause_of, list_cause, locator_cause};
-use crate::verify::request::FileKind;
+use crate::verify::check::hint::{self, Issuer};
+use crate::verify::request::{FileKind, IssuerFiles};
 use bytes::Bytes;
 use rpki_files::{ManifestContent, ResourceSignedChecklist};
 use rpki_routes::{AsProviderAttestation, RouteOriginAttestation};
@@ -21,6 +24,7 @@ use rpki_validation::kinds::Lines;
 use rpki_validation::locator::locator_under;
 use rpki_validation::object::found_on;
 use rpki_validation::question::Question;
+use rpki_validation::refusal::{CaFault, Refusal};
 use rpki_validation::revocation_list::list_on;
 use std::alloc::{AllocError, Global};
 
@@ -50,8 +54,8 @@ impl Judged {
 pub struct Basis<'s> {
     pub question: &'s Question<'s>,
     pub grounds: &'s Grounds,
-    /// The names of the revocation lists of the question.
-    pub lists: &'s [&'s str],
+    /// The names of the files of the question.
+    pub files: &'s IssuerFiles<'s>,
 }
 
 /// What is said of octets that are to begin with a good one of this kind.
@@ -74,6 +78,36 @@ pub fn judge(
         FileKind::RevocationList => revocation_list(alloc, on, octets),
         FileKind::Locator => locator(alloc, on, octets),
     }
+}
+
+/// Why a signed object is not good.
+fn object_cause(
+    alloc: Global,
+    on: &Basis<'_>,
+    octets: &Bytes,
+    refusal: &Refusal,
+) -> Result<String, AllocError>
+    ensures memory { OnOk result (is_memory refusal.now ≡ false) }
+    ensures says { IfOk result (λ cause. SaysRight (No cause)) }
+{
+    let issuer = Issuer::on(on.grounds, on.files);
+    let hint = hint::of_object(alloc, &issuer, on.question.manner, octets, refusal)?;
+    cause_of(alloc, octets, &on.files.crls, refusal, &hint)
+}
+
+/// Why a certificate is not good.
+fn certificate_cause(
+    alloc: Global,
+    on: &Basis<'_>,
+    octets: &Bytes,
+    fault: &CaFault,
+) -> Result<String, AllocError>
+    ensures memory { OnOk result (is_memory_at_ca fault.now ≡ false) }
+    ensures says { IfOk result (λ cause. SaysRight (No cause)) }
+{
+    let issuer = Issuer::on(on.grounds, on.files);
+    let hint = hint::of_certificate(alloc, &issuer, octets, fault)?;
+    ca_cause(alloc, octets, &on.files.crls, fault, &hint)
 }
 
 /// The lines of a content.
@@ -99,7 +133,7 @@ fn signed<T: Lines>(alloc: Global, on: &Basis<'_>, octets: &Bytes) -> Result<Jud
             Ok(Judged::Yes(lines?))
         }
         Err(refusal) => {
-            let cause = cause_of(alloc, octets, on.lists, &refusal);
+            let cause = object_cause(alloc, on, octets, &refusal);
             drop(refusal);
             Ok(Judged::No(cause?))
         }
@@ -120,7 +154,7 @@ fn attestation(alloc: Global, on: &Basis<'_>, octets: &Bytes) -> Result<Judged, 
             Ok(Judged::Yes(text))
         }
         Err(refusal) => {
-            let cause = cause_of(alloc, octets, on.lists, &refusal);
+            let cause = cause_of(alloc, octets, &on.files.crls, &refusal, "");
             drop(refusal);
             Ok(Judged::No(cause?))
         }
@@ -141,7 +175,7 @@ fn certificate(alloc: Global, on: &Basis<'_>, octets: &Bytes) -> Result<Judged, 
             Ok(Judged::Yes(text))
         }
         Err(fault) => {
-            let cause = ca_cause(alloc, octets, on.lists, &fault);
+            let cause = certificate_cause(alloc, on, octets, &fault);
             drop(fault);
             Ok(Judged::No(cause?))
         }
