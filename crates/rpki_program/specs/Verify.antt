@@ -12,4 +12,5 @@ pub mod Requests
 pub mod Rta
 pub mod Run
 pub mod Time
+pub mod Verdicts
 pub mod Words

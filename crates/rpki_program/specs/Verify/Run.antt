@@ -12,10 +12,11 @@ use Rattle.rpki_program.specs.Verify.Report.{EndsAtFailure, IsCut, IsSilent, IsW
 use Rattle.rpki_program.specs.Verify.Requests.{AskFor}
 use Rattle.rpki_program.specs.Verify.Rta.{IsRtaReport}
 use Rattle.rpki_program.specs.Verify.Time.{moment_at}
+use Rattle.rpki_program.specs.Verify.Verdicts.{IsListReport}
 use Rattle.rpki_program.specs.declared.verify.request.CheckRequest.{CheckRequest}
 use Rattle.rpki_program.specs.declared.verify.request.Request.{Request}
 use Rattle.rpki_program.specs.declared.verify.request.Request.TheVariants.{Check, Files, Payloads}
-use Rattle.rpki_program.specs.declared.verify.request.Request.TheVariants.{Rta}
+use Rattle.rpki_program.specs.declared.verify.request.Request.TheVariants.{Rta, Verdicts}
 use Rattle.rpki_program.specs.declared.verify.request.When.{When}
 
 -- What a run reaches: what the store tells of each file, what the clock tells, the names that the
@@ -44,8 +45,8 @@ IsCheckedAt told clock r run = (IsCut run.status × IsSilent run)
     ⊎ ((now : Moment) × (moment_at clock r.at ≡ Some now)
     × IsChecked told r now run.out_before.0 run.out_after.0 run.status)
 
--- What a request comes to. Of `show`, `verdicts`, `explain`, `--help` and their like this says
--- nothing.
+-- What a request comes to. Of `show`, `verdicts` of an attestation, `explain`, `--help` and their like
+-- this says nothing.
 abbrev pub IsDone : Reach → Request → Run → Type 0
 IsDone to (Check r) run = IsCheckedAt to.told to.clock r run
 IsDone to (Files r) run =
@@ -53,6 +54,7 @@ IsDone to (Files r) run =
 IsDone to (Rta r) run = IsWritten (IsTimed to.clock r.at (λ now. IsRtaReport to.told r now)) run
 IsDone to (Payloads r) run = IsWritten (IsTimed to.clock r.at
     (λ now. IsPayloadsReport to.told (finds_for to.finds r) r now)) run
+IsDone to (Verdicts r) run = IsWritten (IsListReport to.told r) run
 IsDone to request run = Unit {0}
 
 -- What a run with these words comes to: they ask for a request, and this is done, unless the run is

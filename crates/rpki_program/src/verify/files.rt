@@ -137,9 +137,7 @@ fn judge_object<S: Store>(
 {
     match kind_of_name(request.object) {
         Some(FileKind::Manifest) => manifest(alloc, request, grounds, octets, found, store),
-        Some(FileKind::Checklist) => {
-            checklist(alloc, request, grounds, octets, &found.names, store)
-        }
+        Some(FileKind::Checklist) => checklist(alloc, request, grounds, octets, found, store),
         _ => {
             let object = request.object;
             let err = format!(in alloc; "no manifest and no checklist: {object}\n")?;
@@ -201,17 +199,17 @@ fn checklist<S: Store>(
     request: &FilesRequest<'_>,
     grounds: &Grounds,
     octets: &Bytes,
-    names: &[String],
+    found: &FolderNames,
     store: &mut S,
 ) -> Result<Report, AllocError>
     ensures { IfOk result (λ r. IsObjectReport request.now grounds.now (folder_of
-        (S.told store.old) request.now (map string_bytes names.now)) kinds.Checklist octets.now
-        (string_bytes r.out) r.status) }
+        (S.told store.old) request.now (map string_bytes found.now.names.items)) kinds.Checklist
+        octets.now (string_bytes r.out) r.status) }
 {
     match found_on::<ResourceSignedChecklist>(alloc, octets, request.manner, grounds) {
         Err(refusal) => refused(alloc, request, grounds, octets, "rsc", refusal),
         Ok(checklist) => {
-            let report = compared_checklist(alloc, request, &checklist, names, store);
+            let report = compared_checklist(alloc, request, &checklist, found, store);
             drop(checklist);
             report
         }
@@ -223,20 +221,21 @@ fn compared_checklist<S: Store>(
     alloc: Global,
     request: &FilesRequest<'_>,
     checklist: &ResourceSignedChecklist,
-    names: &[String],
+    found: &FolderNames,
     store: &mut S,
 ) -> Result<Report, AllocError>
     ensures { IfOk result (λ r. (compared : ℕ)
         × IsSaidOf request.now compared (string_bytes r.out) r.status
-        × AreHeld (folder_of (S.told store.old) request.now (map string_bytes names.now))
-        (checked checklist.now) compared) }
+        × AreHeld (folder_of (S.told store.old) request.now
+        (map string_bytes found.now.names.items)) (checked checklist.now) compared) }
 {
     let wanted = files_of_checklist(alloc, checklist)?;
     let folder = Folder {
         path: request.folder,
-        names,
+        names: &found.names,
     };
-    let compared = compare(alloc, folder, &wanted, store)?;
+    let mut compared = compare(alloc, folder, &wanted, store)?;
+    push_no_texts(&mut compared.lines, found.no_texts)?;
     report(alloc, request, "rsc", &compared)
 }
 
@@ -365,6 +364,9 @@ fn report(
 fn push_no_texts(text: &mut String, count: u64) -> Result<(), AllocError> {
     match count {
         0 => Ok(()),
-        _ => write!(text, "unlisted files whose names are no text: {count}\n"),
+        _ => write!(
+            text,
+            "files whose names are no text, and which are not read: {count}\n"
+        ),
     }
 }

@@ -73,7 +73,10 @@ fn has_any<R: Repository>(alloc: Global, copy: &R, locator: &Tal) -> Result<bool
 fn has<R: Repository>(alloc: Global, copy: &R, uri: &TalUri) -> Result<bool, AllocError> {
     let uri = uri.as_str();
     let kept = format!(in alloc; "ta:{uri}")?;
-    Ok(is_there(copy.read(alloc, uri.as_bytes(), 0)?) || is_there(copy.read(alloc, kept.as_bytes(), 0)?))
+    Ok(
+        is_there(copy.read(alloc, uri.as_bytes(), 0)?)
+            || is_there(copy.read(alloc, kept.as_bytes(), 0)?),
+    )
 }
 
 /// Whether there is something.

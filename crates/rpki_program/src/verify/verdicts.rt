@@ -5,8 +5,10 @@ ghost use Rattle.rpki_rsa.specs.Signature.{is_rsa_signature};
 ghost use Rattle.rpki_sigobj.specs.Object.{mode_of};
 ghost use Rattle.rpki_verdicts.specs.Attested.{IsRtaListingOf, octets_of_chains};
 ghost use Rattle.rpki_verdicts.specs.Lists.{IsListingOf};
+ghost use Rattle.rpki_program.specs.Verify.Verdicts.{AreChecked, IsListReport};
 
 use crate::verify::check::cause::unread_report;
+use crate::verify::inputs::{read_each, read_one};
 use crate::verify::report::Report;
 use crate::verify::request::{RtaVerdictsRequest, VerdictsRequest};
 use bytes::Bytes;
@@ -17,25 +19,52 @@ use rpki_rsa::Rsa;
 use rpki_verdicts::{ListingError, listing, rta_listing};
 use std::alloc::{AllocError, Global};
 
+/// The octets of the files of a check.
+#[derive(Drop)]
+pub struct CheckedFiles {
+    pub object: Bytes,
+    pub anchor: Bytes,
+    pub chain: Vec<Bytes>,
+}
+
 /// Lists the good signatures that a check of an object asks about. Refuses where memory runs out.
 pub fn verdicts<S: Store>(
     alloc: Global,
     request: &VerdictsRequest<'_>,
     store: &mut S,
-) -> Result<Report, AllocError> {
-    let mut names = Vec::new(alloc);
-    names.push(request.object)?;
-    names.push(request.ta)?;
-    names.extend_from_slice(&request.cas)?;
-    match read_all(alloc, &names, store) {
+) -> Result<Report, AllocError>
+    ensures { IfOk result (λ r. IsListReport (S.told store.old) request.now (string_bytes r.out)
+        r.status) }
+{
+    match read_checked(alloc, request, store) {
         Err(unread) => unread_report(alloc, unread),
-        Ok(files) => match files.as_slice() {
-            [object, anchor, chain @ ..] => {
-                list(alloc, request.manner.strict, object, anchor, chain)
-            }
-            _ => Err(AllocError),
-        },
+        Ok(files) => {
+            let CheckedFiles {
+                object,
+                anchor,
+                chain,
+            } = &files;
+            list(alloc, request.manner.strict, object, anchor, chain)
+        }
     }
+}
+
+/// Reads the files of a check.
+fn read_checked<'a, S: Store>(
+    alloc: Global,
+    request: &VerdictsRequest<'a>,
+    store: &mut S,
+) -> Result<CheckedFiles, Unread<'a>>
+    ensures { IfOk result (λ files. AreChecked (S.told store.old) request.now files) }
+{
+    let object = read_one(alloc, request.object, store)?;
+    let anchor = read_one(alloc, request.ta, store)?;
+    let chain = read_each(alloc, &request.cas, store)?;
+    Ok(CheckedFiles {
+        object,
+        anchor,
+        chain,
+    })
 }
 
 /// Lists the good signatures that a check asks about, by the octets of the object, of the

@@ -182,12 +182,7 @@ pub fn object_line(alloc: Global, members: Members) -> Result<String, AllocError
 }
 
 /// Puts a member that is a text.
-fn put_text(
-    alloc: Global,
-    members: &mut Members,
-    name: &str,
-    text: &str,
-) -> Result<(), AllocError>
+fn put_text(alloc: Global, members: &mut Members, name: &str, text: &str) -> Result<(), AllocError>
     ensures { OnOk result (get_member name.now (members_view members.new.entries)
         ≡ Some (string text.now)) }
 {

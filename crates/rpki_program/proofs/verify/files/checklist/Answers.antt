@@ -9,6 +9,6 @@ returns-in-Ok g c =
     let told = g.S.Store.told c.args.store.now in
     let content = c.in-Ok.checklist in
     object-filed c.args.request.now c.args.grounds.now
-    (folder_of told c.args.request.now (map string_bytes c.args.names.now)) kinds.Checklist
+    (folder_of told c.args.request.now (map string_bytes c.args.found.now.names.items)) kinds.Checklist
     c.args.octets.now (checked content) (λ S such. (content, c.in-Ok.ensures, such))
     c.compared_checklist-report.result c.compared_checklist-report.ensures

@@ -1,7 +1,5 @@
-use Rattle.std.proofs.Common.{List, map, string_bytes, subst}
-use Rattle.std.specs.Prelude.{IfOk, String}
-use Rattle.std.specs.declared.alloc.Global.{Global}
-use Rattle.rpki_program.specs.Verify.Files.{IsObjectReport, folder_of}
+use Rattle.std.proofs.Common.{map, string_bytes, subst}
+use Rattle.rpki_program.specs.Verify.Files.{folder_of}
 use Rattle.rpki_program.specs.Verify.Kinds.{IsNameOf}
 use Rattle.rpki_program.specs.declared.verify.request.FileKind.{FileKind}
 use Rattle.rpki_program.specs.declared.verify.request.FileKind.TheVariants as kinds
@@ -16,7 +14,4 @@ returns-in-Some-Checklist g c =
     (folder_of told r (map string_bytes c.args.found.now.names.items)) kinds.Checklist
     c.args.octets.now
     (subst (λ (k : FileKind). IsNameOf r.object.now k) c.in-Some-Checklist.field-0-is
-    c.in-Some-Checklist.ensures) c.checklist.result
-    (subst (λ (names : List (String Global)). IfOk c.checklist.result (λ x. IsObjectReport r
-    c.args.grounds.now (folder_of told r (map string_bytes names)) kinds.Checklist c.args.octets.now
-    (string_bytes x.out) x.status)) c.deref.ensures.value c.checklist.ensures)
+    c.in-Some-Checklist.ensures) c.checklist.result c.checklist.ensures

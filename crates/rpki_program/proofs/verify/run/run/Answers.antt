@@ -2,7 +2,9 @@ use Rattle.rpki_program.specs.Verify.Files.{IsFilesReport}
 use Rattle.rpki_program.specs.Verify.Payloads.{IsPayloadsReport, finds_for}
 use Rattle.rpki_program.specs.Verify.Rta.{IsRtaReport}
 use Rattle.rpki_program.specs.Verify.Run.{IsTimed, reaching}
+use Rattle.rpki_program.specs.Verify.Verdicts.{IsListReport}
 use Rattle.rpki_program.specs.declared.verify.request.Request.TheVariants.{Files, Payloads, Rta}
+use Rattle.rpki_program.specs.declared.verify.request.Request.TheVariants.{Verdicts}
 use Rattle.rpki_program.proofs.Paying.{done-as}
 use Rattle.rpki_program.proofs.Saying.{written}
 use Rattle.rpki_program.proofs.verify.run.run.Goals as goal
@@ -36,3 +38,12 @@ returns-in-Payloads-clause-done g c =
     (written (IsTimed c.args.clock r.at
     (λ now. IsPayloadsReport told (finds_for finds r) r now)) c.payloads_at.result _
     c.payloads_at.ensures c.say-in-Payloads.ensures.said)
+
+pub returns-in-Verdicts-clause-done : goal.returns-in-Verdicts-clause-done
+returns-in-Verdicts-clause-done g c =
+    let told = g.S.Store.told c.args.store.now in
+    let r = c.in-Verdicts.request in
+    done-as (reaching told c.args.clock (g.Y.System.named c.args.system.now)
+    (g.Y.System.finds c.args.system.now)) c.args.request (Verdicts r) _ c.in-Verdicts.is
+    (written (IsListReport told r) c.verdicts.result _ c.verdicts.ensures
+    c.say-in-Verdicts.ensures.said)
