@@ -1149,7 +1149,7 @@ LARGE = [
 # How many times the files of the copy a run may need, where that is more than in tools/runs: each
 # prefix of a ROA is a payload, and a line, or an object of JSON; each listed name is kept until all are
 # known to be different.
-TIMES, TIMES_OF_JSON = {of_prefixes: 24, of_files: 8}, 48
+TIMES = {of_prefixes: 48, of_files: 8}
 
 
 # ---- a tree on disk, for docs/COOKBOOK.md

@@ -1,7 +1,10 @@
 -- What a check of files comes to, from its parts.
-use Rattle.std.proofs.Common.{◌≡◌, ◌∙◌, ◌⊎◌, ℕ, [], Result, Ok, Err, inl, inr, subst}
-use Rattle.std.specs.Prelude.{IfOk, string_bytes}
+use Rattle.std.proofs.Common.{◌≡◌, ◌∙◌, ◌⊎◌, ◌++◌, ℕ, List, [], Result, Ok, Err, ap, append_assoc}
+use Rattle.std.proofs.Common.{codes, inl, inr, subst, sym}
+use Rattle.std.specs.Borrow.{Bor}
+use Rattle.std.specs.Prelude.{Bool, false, IfOk, String, string_bytes}
 use Rattle.std.specs.declared.alloc.AllocError.{AllocError}
+use Rattle.std.specs.declared.alloc.Global.{Global}
 use Rattle.rpki_basics.specs.Moment.{Moment}
 use Rattle.rpki_cli.specs.Answer.{Run}
 use Rattle.rpki_cli.specs.Store.{Told}
@@ -9,7 +12,7 @@ use Rattle.rpki_validation.specs.Grounds.{AreGroundsOf, HasNoGrounds}
 use Rattle.rpki_validation.specs.declared.grounds.Grounds.{Grounds}
 use Rattle.rpki_validation.specs.declared.question.Question.{Question}
 use Rattle.rpki_validation.specs.declared.refusal.Refusal.{Refusal}
-use Rattle.rpki_program.specs.Verify.Check.{IsChecked, IsRunOver, IsUngrounded}
+use Rattle.rpki_program.specs.Verify.Check.{AreNoLines, IsChecked, IsRunOver, IsUngrounded}
 use Rattle.rpki_program.specs.Verify.Inputs.{IsQuestionOf}
 use Rattle.rpki_program.specs.Verify.Report.{EndsAtFailure, IsCut, IsPut, IsSaid, IsSilent, IsStopped}
 use Rattle.rpki_program.specs.declared.verify.report.Report.{Report}
@@ -24,6 +27,20 @@ stops n (inr (inr e)) = inr (inl e)
 
 cut-stops : (n : ℕ) → IsCut n → IsStopped n
 cut-stops n c = stops n (inr c)
+
+-- that the issuer is refused, in a line
+pub refused-lines : (made : Result (String Global) AllocError) (json : Bool)
+    (files : List (Bor (List ℕ))) (cause : List ℕ) → json ≡ false
+    → (why : List ℕ) × (cause ≡ codes "issuer refused: " ++ why)
+    → IfOk made (λ s. string_bytes s ≡ cause ++ codes "\n")
+    → IfOk made (λ s. AreNoLines json files (string_bytes s))
+refused-lines (Ok s) json files cause is h e =
+    subst (λ (b : Bool). AreNoLines b files (string_bytes s)) (sym is) (
+      h.0 ++ codes "\n",
+      e ∙ (ap (λ (l : List ℕ). l ++ codes "\n") h.1
+          ∙ append_assoc (codes "issuer refused: ") h.0 (codes "\n")),
+    )
+refused-lines (Err e) json files cause is h x = tt
 
 -- the run of a check that says this
 module _ (told : Told) (r : CheckRequest) (moment : Moment) (run : Run) where

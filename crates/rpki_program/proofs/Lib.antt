@@ -7,6 +7,7 @@ mod Foldered
 mod Indenting
 mod Kinded
 mod Lined
+mod Listed
 mod Paying
 mod Running
 mod Saying

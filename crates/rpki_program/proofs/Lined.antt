@@ -1,7 +1,7 @@
 -- Lines of JSON.
-use Rattle.std.proofs.Common.{◌≡◌, ◌∙◌, List, ℕ, Ok, Err, Result, Some, ap, codes}
+use Rattle.std.proofs.Common.{◌≡◌, ◌∙◌, [], ◌∷◌, List, ℕ, Ok, Err, Result, Some, ap, arith, codes}
 use Rattle.std.specs.BTreeMap.{BTreeMap}
-use Rattle.std.specs.Prelude.{Bool, IfOk, OnOk, String, string_bytes}
+use Rattle.std.specs.Prelude.{Bool, IfOk, String, string_bytes}
 use Rattle.std.specs.declared.alloc.AllocError.{AllocError}
 use Rattle.std.specs.declared.alloc.Global.{Global}
 use Rattle.serde_json.proofs.Views.{get_member-put, get_member-put_other}
@@ -21,6 +21,14 @@ pub found-still : (q k : List ℕ) (d e : Data) (old new : Members) → (q ≡ k
     → get_member q old ≡ Some e → new ≡ put k d old → get_member q new ≡ Some e
 found-still q k d e old new other was h =
     ap (get_member q) h ∙ (get_member-put_other q k d old other ∙ was)
+
+-- the names of the two members differ
+pub file-is-not-valid : codes "file" ≡ codes "valid" → ⊥
+file-is-not-valid e = omega (arith, ap first e)
+  where
+    first : List ℕ → ℕ
+    first [] = 0
+    first (x ∷ xs) = x
 
 -- the line of an object says what its members say
 pub lined : (made : Result (String Global) AllocError) (members : BTreeMap (String Global) Value)

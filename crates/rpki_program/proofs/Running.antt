@@ -1,5 +1,5 @@
 -- Entries that are written one after the other.
-use Rattle.std.proofs.Common.{◌≡◌, ◌∙◌, ◌⊎◌, ℕ, zero, suc, ◌+◌, ◌<◌, ◌≤◌, List, [], ◌∷◌, ◌++◌, All}
+use Rattle.std.proofs.Common.{◌≡◌, ◌∙◌, ◌⊎◌, ℕ, zero, suc, ◌+◌, ◌<◌, ◌≤◌, List, [], ◌∷◌, ◌++◌}
 use Rattle.std.proofs.Common.{Option, append_assoc, arith, get_or, inl, inr, length, refl, subst, sym}
 use Rattle.std.proofs.Common.{ap, drop, take}
 use Rattle.std.proofs.KnownBytes.{Appends-nil, Appends-trans}

@@ -80,7 +80,7 @@ other-first c d rest word h more e = h (first e)
 -- a cause that begins with another letter than `yes`, `skipped` and `cannot be read` is right
 cause-first : (cause : String Global) (c : ℕ) (rest : List ℕ) → (c ≡ 121 → ⊥) → (c ≡ 115 → ⊥)
     → (c ≡ 99 → ⊥) → string_bytes cause ≡ c ∷ rest → SaysRight (No cause)
-cause-first cause c rest y s r e = (not 121 _ y, not 115 _ s, not 99 _ r)
+cause-first cause c rest y s r e = (not 121 (codes "es") y, not 115 (codes "kipped") s, not 99 (codes "annot be read") r)
   where
     not : (d : ℕ) (word : List ℕ) → (c ≡ d → ⊥)
         → SaysNot (d ∷ word) (string_bytes cause ++ codes "\n")
@@ -107,4 +107,4 @@ pub ruleset by_first_letter = (begins-r, begins-m, begins-i)
 -- a no of the other kind: it begins with `no`
 pub begins-n : (text rest : List ℕ) → text ≡ 110 ∷ rest → SaysNoYes text
 begins-n text rest e = subst (λ (l : List ℕ). SaysNoYes l) (sym e)
-    (other-first 110 121 rest _ (λ s. omega (arith, s)))
+    (other-first 110 121 rest (codes "es") (λ s. omega (arith, s)))

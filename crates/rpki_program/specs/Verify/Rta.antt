@@ -125,4 +125,4 @@ IsNoOfRta told r moment = Any (λ w. IsNoAnchor told moment w.now) r.anchors.ite
 abbrev pub IsRtaReport : Told → RtaRequest → Moment → List ℕ → ℕ → Type 0
 IsRtaReport told r moment text status =
     IsRight (IsYesOfRta told r moment text) (IsNoOfRta told r moment) status
-    × IsNoUnlessZero false text status
+    × IsNoUnlessZero false r.object.now text status

@@ -7,7 +7,7 @@ pub mod hint;
 pub mod json;
 pub mod judged;
 
-ghost use Rattle.std.specs.Prelude.{◌≡◌, ◌≤◌, ◌⊎◌, IfOk, false, true, string_bytes};
+ghost use Rattle.std.specs.Prelude.{◌≡◌, ◌≤◌, ◌⊎◌, ◌++◌, IfOk, codes, false, true, string_bytes};
 ghost use Rattle.rpki_cli.specs.Answer.{run_of};
 ghost use Rattle.rpki_program.specs.Verify.Check.{AreNoLines, IsChecked, IsRunOver};
 ghost use Rattle.rpki_program.specs.Verify.Check.{IsUngrounded};
@@ -131,8 +131,15 @@ fn unissued(
     if request.json {
         no_lines(alloc, request, &request.files, &cause)
     } else {
-        format!(in alloc; "{cause}\n")
+        line_of(alloc, &cause)
     }
+}
+
+/// A cause as a line.
+fn line_of(alloc: Global, cause: &String) -> Result<String, AllocError>
+    ensures { IfOk result (λ text. string_bytes text ≡ string_bytes cause.now ++ codes "\n") }
+{
+    format!(in alloc; "{cause}\n")
 }
 
 /// The lines of JSON of files that are not good for this cause.

@@ -196,8 +196,14 @@ fn as_outside(
     };
     match first_outside(issuer.as_resources().as_slice(), claimed.as_slice()) {
         None => Ok(None),
-        Some(Block { min, max }) if min == max => Ok(Some(AsBlock::Id(min).to_string(alloc)?)),
-        Some(Block { min, max }) => Ok(Some(AsBlock::Range(min, max).to_string(alloc)?)),
+        Some(Block { min, max }) => {
+            let block = if min == max {
+                AsBlock::Id(min)
+            } else {
+                AsBlock::Range(min, max)
+            };
+            Ok(Some(block.to_string(alloc)?))
+        }
     }
 }
 

@@ -187,7 +187,8 @@ fn put_text(alloc: Global, members: &mut Members, name: &str, text: &str) -> Res
         ≡ Some (string text.now)) }
 {
     let text = String::from_str(alloc, text)?;
-    put(members, alloc, name, Value::String(text))
+    put(members, alloc, name, Value::from(text))?;
+    Ok(())
 }
 
 /// Puts lines as a list of texts, one each.

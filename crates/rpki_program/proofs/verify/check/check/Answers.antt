@@ -28,9 +28,9 @@ returns-clause-checked g c =
     (subst (λ (fs : List (Bor (List ℕ))). IsRunOver (g.S.Store.told c.args.store.now)
     c.args.request.now c.question_of-question.result c.in-Ok-grounds_of.grounds fs
     (g.O.Sink.taken c.args.out.now) (g.O.Sink.taken c.check_each-status.new.out)
-    c.check_each-status.result) c.deref-in-Ok-grounds_of.ensures.value
+    c.check_each-status.result) c.deref.ensures.value
     (subst (λ (t : Told). IsRunOver t c.args.request.now c.question_of-question.result
-    c.in-Ok-grounds_of.grounds c.deref-in-Ok-grounds_of.result.now
+    c.in-Ok-grounds_of.grounds c.deref.result.now
     (g.O.Sink.taken c.args.out.now) (g.O.Sink.taken c.check_each-status.new.out)
     c.check_each-status.result) c.read_inputs.ensures.same c.check_each-status.ensures.entries))
     c.noted.ensures.status
