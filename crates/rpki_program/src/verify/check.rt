@@ -4,7 +4,7 @@
 pub mod cause;
 mod entry;
 pub mod hint;
-pub mod json;
+pub mod json_line;
 pub mod judged;
 
 ghost use Rattle.std.specs.Prelude.{◌≡◌, ◌≤◌, ◌⊎◌, ◌++◌, IfOk, codes, false, true, string_bytes};
@@ -172,7 +172,7 @@ fn no_line(
         Some(kind) => kind.word(),
         None => "",
     };
-    json::no_line(alloc, name, word, cause)
+    json_line::no_line(alloc, name, word, cause)
 }
 
 /// Names the lists that count for none of the CAs, and gives the status.

@@ -15,7 +15,7 @@ ghost use Rattle.rpki_program.specs.declared.verify.request.FileKind.TheVariants
 
 use crate::verify::check::cause::{bad_input, cause_of, issuer_cause, unread_report};
 use crate::verify::check::hint::{Issuer, of_object};
-use crate::verify::check::json::{no_line, state_line};
+use crate::verify::check::json_line::{no_line, state_line};
 use crate::verify::folders::{Compared, Folder, Wanted, compare, push_unlisted};
 use crate::verify::inputs::{question_of, read_inputs, read_one};
 use crate::verify::kinds::kind_of_name;

@@ -3,7 +3,7 @@
 ghost use Rattle.rpki_cli.specs.Answer.{run_of};
 ghost use Rattle.rpki_program.specs.Verify.Report.{EndsAtFailure};
 
-use crate::verify::check::json::{
+use crate::verify::check::json_line::{
     Members, members_of, no_line, object_line, options_of, put_named,
 };
 use crate::verify::kinds::kind_of_file;

@@ -6,7 +6,7 @@ ghost use Rattle.rpki_program.specs.Verify.Entry.{HasEntry, IsEntry, IsText, ent
 ghost use Rattle.rpki_program.specs.Verify.Entry.{is_several, said_of, status_of, verdict_of};
 ghost use Rattle.rpki_program.specs.declared.verify.check.judged.Judged.TheVariants.{No};
 
-use crate::verify::check::json::{line_of, no_line};
+use crate::verify::check::json_line::{line_of, no_line};
 use crate::verify::check::judged::{Basis, Judged, judge};
 use crate::verify::kinds::kind_of_file;
 use crate::verify::messages::unreadable;

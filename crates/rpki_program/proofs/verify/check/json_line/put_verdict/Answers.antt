@@ -2,7 +2,7 @@ use Rattle.std.proofs.Common.{codes}
 use Rattle.serde_json.specs.Data.{boolean, string}
 use Rattle.serde_json.specs.View.{members_view}
 use Rattle.rpki_program.proofs.Lined.{file-is-not-valid, found-still, put-found}
-use Rattle.rpki_program.proofs.verify.check.json.put_verdict.Goals as goal
+use Rattle.rpki_program.proofs.verify.check.json_line.put_verdict.Goals as goal
 
 pub returns-clause-file : goal.returns-clause-file
 returns-clause-file c =

@@ -2,7 +2,7 @@ use Rattle.std.proofs.Common.{◌∙◌, ap}
 use Rattle.serde_json.specs.Data.{string}
 use Rattle.serde_json.specs.View.{members_view}
 use Rattle.rpki_program.proofs.Lined.{put-found}
-use Rattle.rpki_program.proofs.verify.check.json.put_text.Goals as goal
+use Rattle.rpki_program.proofs.verify.check.json_line.put_text.Goals as goal
 
 pub returns : goal.returns
 returns c =
