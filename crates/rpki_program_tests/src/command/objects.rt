@@ -113,7 +113,11 @@ static ROWS: [Row; 23] = [
     (
         By::Verify,
         "check --ta anchor.cer origin.roa",
-        NOT_ISSUED,
+        Said::No(
+            "refused: not issued by this CA: its issuer has the key \
+             C78637259551E49913A293A978985D33FBECF9C1 (rsync://rpki.example.net/anchor/authority.cer), \
+             and anchor.cer has 1A3A434D3CB238F39188C4ED212421A717BB7C97: give its CA before it, with --ca\n",
+        ),
         2,
     ),
     (
