@@ -109,11 +109,11 @@ class Tree:
         """Of the one locator there are these payloads and refusals."""
         self.found, self.refused = {"one": payloads}, {"one": refused}
 
-    def fails(self, text, name="one"):
-        """A locator has no run."""
+    def fails(self, text, name="one", status=1):
+        """A locator has no run, which makes the status."""
         self.found.pop(name, None)
         self.faults.append((name, text))
-        self.status = 1
+        self.status = status
         return self
 
     def written(self):

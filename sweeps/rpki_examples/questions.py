@@ -4,13 +4,25 @@
 Which of them are good is told by the files NAME.verdicts there, for which `openssl` was asked."""
 import hashlib
 import pathlib
-import runpy
-import textwrap
+import sys
 
-SWEEPS = pathlib.Path(__file__).resolve().parent.parent
-TREE = SWEEPS.parent / "examples"
-FILES = runpy.run_path(str(SWEEPS / "rpki_verdicts" / "examples.py"))["FILES"]
-OCTETS = {name: (TREE / path).read_bytes() for name, path in FILES.items()}
+sys.dont_write_bytecode = True
+sys.path.append(str(pathlib.Path(__file__).resolve().parent.parent.parent / "tools"))
+import example_files as examples  # noqa: E402
+from example_files import contents, inside  # noqa: E402
+
+FILES = {
+    "anchor": "rpki.example.net/anchor.cer",
+    "authority": "rpki.example.net/anchor/authority.cer",
+    "manifest": "rpki.example.net/authority/authority.mft",
+    "roa": "rpki.example.net/authority/origin.roa",
+    "aspa": "rpki.example.net/authority/providers.asa",
+    "rsc": "letter.sig",
+    "overclaiming": "rpki.example.net/authority/overclaiming.roa",
+    "expired": "rpki.example.net/authority/expired.roa",
+    "broken": "rpki.example.net/authority/broken.roa",
+}
+OCTETS = {name: (examples.TREE / path).read_bytes() for name, path in FILES.items()}
 HEAD = '''//! Signatures of examples/, looked up among the good ones that a check asks about.
 
 use bytes::Bytes;
@@ -61,48 +73,32 @@ fn said(
 '''
 
 
-def parts(contents):
-    """The values in DER that stand one after the other."""
-    found = []
-    while contents:
-        long = contents[1] - 0x80 if contents[1] >= 0x80 else 0
-        end = 2 + long + (int.from_bytes(contents[2:2 + long], "big") if long else contents[1])
-        found.append(contents[:end])
-        contents = contents[end:]
-    return found
-
-
-def contents_of(value):
-    """The contents of a value in DER."""
-    return value[2 + (value[1] - 0x80 if value[1] >= 0x80 else 0):]
-
-
 def bits_of(value):
     """The bits of a BIT STRING of whole octets."""
-    return contents_of(value)[1:]
+    return contents(value)[1:]
 
 
 def info_of(cert):
     """The SubjectPublicKeyInfo of a certificate."""
-    return parts(contents_of(parts(contents_of(cert))[0]))[6]
+    return inside(inside(cert)[0])[6]
 
 
 def key_of(cert):
-    return bits_of(parts(contents_of(info_of(cert)))[1])
+    return bits_of(inside(info_of(cert))[1])
 
 
 def in_cert(cert):
     """What is signed of a certificate, and its signature."""
-    signed, _, signature = parts(contents_of(cert))
+    signed, _, signature = inside(cert)
     return signed, bits_of(signature)
 
 
 def signer_of(name):
     """The certificate in an object, the message that it signs, and the signature."""
-    certs, signers = parts(contents_of(contents_of(parts(contents_of(OCTETS[name]))[1])))[3:]
-    signer = parts(contents_of(parts(contents_of(signers))[0]))
+    certs, signers = examples.signed_data(OCTETS[name])[3:]
+    signer = inside(inside(signers)[0])
     attributes = next(part for part in signer if part[0] == 0xA0)
-    return contents_of(certs), b"\x31" + attributes[1:], contents_of(signer[-1])
+    return contents(certs), b"\x31" + attributes[1:], contents(signer[-1])
 
 
 ANCHOR, AUTHORITY = OCTETS["anchor"], OCTETS["authority"]
@@ -122,7 +118,7 @@ def said_of(name, asked):
     key, message, signature = asked
     words = (hashlib.sha256(octets).hexdigest()
              for octets in (keys.get(key, b""), message, signature))
-    path = TREE / f"{pathlib.Path(FILES[name]).name}.verdicts"
+    path = examples.TREE / f"{pathlib.Path(FILES[name]).name}.verdicts"
     return "Yes" if " ".join(words) in path.read_text("ascii").splitlines() else "No"
 
 
@@ -149,23 +145,17 @@ def rows():
     yield "anchor", BOTH, one[0], "Object"
 
 
-def table(name, octets):
-    print(f"static {name}: [u8; {len(octets)}] = [")
-    print(textwrap.fill(", ".join(f"0x{it:02X}" for it in octets), 100))
-    print("];\n")
-
-
 def main():
     print(HEAD)
     for name, octets in OCTETS.items():
-        table(name.upper(), octets)
+        examples.table(name, octets)
     named = {b"": "NOTHING"}
     print("static NOTHING: [u8; 0] = [];\n")
     for number, (name, chain, asked, said) in enumerate(rows()):
         for octets in asked:
             if octets not in named:
                 named[octets] = f"PART_{len(named)}"
-                table(named[octets], octets)
+                examples.table(named[octets], octets)
         anchor, *others = (f"&{it.upper()}" for it in chain)
         parts_of = ", ".join(f"&{named[octets]}" for octets in asked)
         print(f"#[test]\nfn row_{number}(rt: HostRuntime) -> Result<(), AllocError> {{")

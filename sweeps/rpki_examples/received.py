@@ -2,58 +2,29 @@
 """Writes a module of tests in which the callers check the objects of examples/, with a list that
 revokes some."""
 import pathlib
-import textwrap
+import sys
 
-TREE = pathlib.Path(__file__).resolve().parent.parent.parent / "examples"
+sys.dont_write_bytecode = True
+sys.path.append(str(pathlib.Path(__file__).resolve().parent.parent.parent / "tools"))
+import example_files as examples  # noqa: E402
+from octets import value  # noqa: E402
+
 HEAD = '''//! The objects of examples/, as the callers check them.
 
 use bytes::Bytes;
 use rpki_basics::Time;
 use rpki_certs::{Cert, ResourceCert};
 use rpki_crls::Crl;
-use rpki_der::{DecodeError, Oid};
+use rpki_der::Oid;
 use rpki_examples::issuers::{key_of_issuer, roa_under_chain};
 use rpki_examples::objects::{content_in, copy_of, number_of, signer_under};
 use rpki_examples::received::{is_attested, is_in_manifest, roa_under};
-use rpki_faults::ValidationError;
 use rpki_resources::AddressFamily;
 use rpki_rsa::Rsa;
 use rpki_signed::check::CheckError;
 use rpki_sigobj::SignedObject;
+use rpki_testing::{Fail, year};
 use std::alloc::{AllocError, Global};
-
-/// Why a test ends early.
-#[derive(Clone, Copy, Debug, PartialEq, Eq)]
-pub enum Fail {
-    Memory,
-    Refused,
-}
-
-impl From<AllocError> for Fail {
-    fn from(_error: AllocError) -> Fail {
-        Fail::Memory
-    }
-}
-
-impl From<DecodeError> for Fail {
-    fn from(_error: DecodeError) -> Fail {
-        Fail::Refused
-    }
-}
-
-impl From<ValidationError> for Fail {
-    fn from(_error: ValidationError) -> Fail {
-        Fail::Refused
-    }
-}
-
-/// The first moment of a year.
-fn time(year: u16) -> Result<Time, Fail> {
-    match Time::utc(year, 1, 1, 0, 0, 0) {
-        Some(now) => Ok(now),
-        None => Err(Fail::Refused),
-    }
-}
 
 /// The CA of the tree, validated at this moment.
 fn authority(alloc: Global, now: Time) -> Result<ResourceCert, Fail> {
@@ -68,9 +39,9 @@ fn origin(
     alloc: Global,
     octets: &'static [u8],
     list: &'static [u8],
-    year: u16,
+    at: u16,
 ) -> Result<String, Fail> {
-    let now = time(year)?;
+    let now = year(at)?;
     let ca = authority(alloc, now)?;
     let list = Crl::decode(alloc, Bytes::from_static(list))?;
     let octets = Bytes::from_static(octets);
@@ -98,7 +69,7 @@ fn listed(
     name: &[u8],
     file: &[u8],
 ) -> Result<String, Fail> {
-    let now = time(2027)?;
+    let now = year(2027)?;
     let ca = authority(alloc, now)?;
     let list = Crl::decode(alloc, Bytes::from_static(list))?;
     let octets = Bytes::from_static(&MANIFEST);
@@ -107,7 +78,7 @@ fn listed(
 
 /// Whether the checklist attests a document.
 fn attested(alloc: Global, list: &'static [u8], document: &[u8]) -> Result<String, Fail> {
-    let now = time(2027)?;
+    let now = year(2027)?;
     let ca = authority(alloc, now)?;
     let list = Crl::decode(alloc, Bytes::from_static(list))?;
     let octets = Bytes::from_static(&LETTER);
@@ -127,8 +98,8 @@ fn chain_of(alloc: Global, certs: &[&[u8]]) -> Result<Vec<Bytes>, Fail> {
 
 /// The identifier of the key of the issuer that these make under the trust anchor, or why they make
 /// none.
-fn key(alloc: Global, certs: &[&[u8]], year: u16) -> Result<String, Fail> {
-    let now = time(year)?;
+fn key(alloc: Global, certs: &[&[u8]], at: u16) -> Result<String, Fail> {
+    let now = year(at)?;
     let chain = chain_of(alloc, certs)?;
     Ok(match key_of_issuer(alloc, &Bytes::from_static(&ANCHOR_CER), &chain, &Rsa, now) {
         Ok(key) => format!(in alloc; "{key}")?,
@@ -138,7 +109,7 @@ fn key(alloc: Global, certs: &[&[u8]], year: u16) -> Result<String, Fail> {
 
 /// What is said to a ROA under the issuer that these make, as a text.
 fn under(alloc: Global, octets: &'static [u8], certs: &[&[u8]]) -> Result<String, Fail> {
-    let now = time(2027)?;
+    let now = year(2027)?;
     let chain = chain_of(alloc, certs)?;
     let list = Crl::decode(alloc, Bytes::from_static(&NONE))?;
     let octets = Bytes::from_static(octets);
@@ -193,7 +164,7 @@ fn copied(alloc: Global, strict: bool) -> Result<String, Fail> {
 
 /// The addresses of the signer of an object, or why it has none.
 fn signer(alloc: Global, octets: &'static [u8]) -> Result<String, Fail> {
-    let now = time(2027)?;
+    let now = year(2027)?;
     let ca = authority(alloc, now)?;
     let object = SignedObject::decode(alloc, Bytes::from_static(octets), true)?;
     let mut text = String::new(alloc);
@@ -256,49 +227,24 @@ ROWS = (
 )
 
 
-def parts(octets):
-    """The values that stand one after another, each with its identifier and its length."""
-    at = 0
-    while at < len(octets):
-        first, size = octets[at + 1], 2
-        if first > 128:
-            size += first - 128
-            first = int.from_bytes(octets[at + 2:at + size], "big")
-        yield octets[at:at + size + first], octets[at + size:at + size + first]
-        at += size + first
-
-
-def value(tag, contents):
-    """A value with this identifier."""
-    size = len(contents)
-    if size < 128:
-        return bytes((tag, size)) + contents
-    octets = size.to_bytes((size.bit_length() + 7) // 8, "big")
-    return bytes((tag, 128 + len(octets))) + octets + contents
-
-
 def revoking(octets, numbers):
     """A revocation list that has these serial numbers too; its signature is the old one."""
-    signed, *others = parts(next(parts(octets))[1])
-    fields = [whole for whole, _ in parts(signed[1])]
+    signed, *others = examples.inside(octets)
+    fields = examples.inside(signed)
     entry = [value(0x30, value(2, bytes((it,))) + fields[3]) for it in numbers]
     fields.insert(5, value(0x30, b"".join(entry)))
-    return value(0x30, value(0x30, b"".join(fields)) + b"".join(whole for whole, _ in others))
-
-
-def data_of(octets):
-    """The fields of a signed object."""
-    return list(parts(list(parts(list(parts(next(parts(octets))[1]))[1][1]))[0][1]))
+    return value(0x30, value(0x30, b"".join(fields)) + b"".join(others))
 
 
 def content_of(octets):
     """The octets of the content of a signed object."""
-    return next(parts(list(parts(data_of(octets)[2][1]))[1][1]))[1]
+    content = examples.inside(examples.signed_data(octets)[2])[1]
+    return examples.contents(examples.contents(content))
 
 
 def main():
     print(HEAD)
-    made = {name: (TREE / path).read_bytes() for name, path in FILES.items()}
+    made = {name: (examples.TREE / path).read_bytes() for name, path in FILES.items()}
     content = content_of(made["ORIGIN"])
     made["CONTENT"] = content
     made["NUMBERED"] = made["ORIGIN"].replace(content, b"\x02\x01\x05" + content[3:])
@@ -306,9 +252,7 @@ def main():
     made["OTHERS"] = revoking(made["NONE"], (2, 3))
     made["DOCUMENT"] = b"a letter\n"
     for name, octets in made.items():
-        print(f"static {name}: [u8; {len(octets)}] = [")
-        print(textwrap.fill(", ".join(f"0x{it:02X}" for it in octets), 100))
-        print("];\n")
+        examples.table(name, octets)
     for number, (call, given, answer) in enumerate(ROWS):
         print(f'''#[test]
 fn row_{number}(rt: HostRuntime) -> Result<(), Fail> {{

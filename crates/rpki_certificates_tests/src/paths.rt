@@ -1,6 +1,6 @@
 //! Tests of `rpki_paths`: rows of certificates that are walked, each with what must be answered.
-//! The answers follow from the draft by hand. Further pairings and whole attestations are in the
-//! sweeps.
+//! The answers follow from the draft by hand. Whole attestations are rows of the programs; further
+//! pairings are in the sweeps.
 
 mod attested;
 mod granted;

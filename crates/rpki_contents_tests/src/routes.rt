@@ -1,7 +1,8 @@
 //! Tests of `rpki_routes`, each a table of rows that one small function walks.
 //!
 //! The expected values follow from RFC 9582, RFC 3779 and the ASPA profile by hand. A test hands
-//! want of memory on and asserts everything else. Long contents are in the sweeps.
+//! want of memory on and asserts everything else. Very many entries that are built are in the
+//! sweeps.
 
 mod aspas;
 mod built;

@@ -5,6 +5,8 @@ pub mod Elements
 pub mod Formatted
 pub mod Gathered
 pub mod Joined
+pub mod Limited
+pub mod Named
 pub mod Once
 pub mod Recorded
 pub mod Rowed

@@ -1,5 +1,5 @@
 -- What a validation run under a locator comes to.
-use Rattle.std.specs.Prelude.{◌≡◌, ℕ, List, Result, Ok, Err}
+use Rattle.std.specs.Prelude.{◌≡◌, ℕ, List, Result, Ok, Err, Bool, true, false}
 use Rattle.rpki_tal.specs.Tal.{Locator}
 use Rattle.rpki_relying_party.specs.Found.{Lists}
 use Rattle.rpki_relying_party.specs.Runs.{FindsAllUnder, IsLeftRefusal, IsRunUnder, IsSaidUnder}
@@ -9,12 +9,25 @@ use Rattle.rpki_relying_party.specs.Walk.{Left}
 use Rattle.rpki_relying_party.specs.declared.found.Finding.{Finding}
 use Rattle.rpki_relying_party.specs.declared.found.Found.{Found}
 use Rattle.rpki_relying_party.specs.declared.locator.RunFault.{RunFault}
+use Rattle.rpki_relying_party.specs.declared.locator.RunFault.TheVariants as faults
 use Rattle.rpki_relying_party.specs.declared.place.Place.{Place}
 use Rattle.rpki_payloads.specs.Party.{Party, setting_of}
 
 -- what is found, or why there is no run
 abbrev pub Outcome : Type 0
 Outcome = Result Found RunFault
+
+-- whether the cause is want of memory
+abbrev pub is_memory : RunFault → Bool
+is_memory (faults.Anchor fault) = false
+is_memory (faults.Point cause) = false
+is_memory faults.Limit = false
+is_memory faults.Memory = true
+
+-- whether there is no run for want of memory
+abbrev pub lacks_memory : Outcome → Bool
+lacks_memory (Ok found) = false
+lacks_memory (Err fault) = is_memory fault
 
 -- the name of a locator, and what the run under it came to
 pub record AnchorOutcome : Type 0 where

@@ -1,13 +1,13 @@
 -- What is reported of locators.
 use Rattle.std.specs.Prelude.{◌≡◌, ℕ, List, [], ◌++◌, codes, Option, Some, None, string_bytes}
-use Rattle.std.specs.Prelude.{Ok, Err, is_ok, if◌then◌else◌}
-use Rattle.std.specs.List.{AllZip, filter_map, flat_map, list_all}
+use Rattle.std.specs.Prelude.{Ok, Err, is_ok, Bool, if◌then◌else◌}
+use Rattle.std.specs.List.{AllZip, filter_map, flat_map, list_all, list_any}
 use Rattle.rpki_basics.specs.Moment.{Moment}
 use Rattle.rpki_payloads.specs.Formats.{IsPayloadsText}
 use Rattle.rpki_payloads.specs.Found.{FoundUnder}
 use Rattle.rpki_payloads.specs.Texts.Refusals.{refusals_text}
 use Rattle.rpki_relying_party.specs.Runs.{run_fault_text}
-use Rattle.rpki_payloads.specs.Outcomes.{Outcome, AnchorOutcome, IsOutcomeUnder}
+use Rattle.rpki_payloads.specs.Outcomes.{Outcome, AnchorOutcome, IsOutcomeUnder, lacks_memory}
 use Rattle.rpki_payloads.specs.Party.{Party}
 use Rattle.rpki_payloads.specs.declared.formats.PayloadFormat.{PayloadFormat}
 use Rattle.rpki_payloads.specs.declared.locators.NamedLocator.{NamedLocator}
@@ -37,9 +37,19 @@ faults_text outcomes = flat_map (λ p. outcome_line p.name p.outcome) outcomes
 abbrev pub refused_text : List AnchorOutcome → List ℕ
 refused_text outcomes = faults_text outcomes ++ refusals_text (found_in outcomes)
 
--- the exit status: 0 where each locator has a run
+-- whether a locator has no run for want of memory
+abbrev pub memory_ran_out : List AnchorOutcome → Bool
+memory_ran_out outcomes = list_any (λ p. lacks_memory p.outcome) outcomes
+
+-- whether each locator has a run
+abbrev pub all_have_runs : List AnchorOutcome → Bool
+all_have_runs outcomes = list_all (λ p. is_ok p.outcome) outcomes
+
+-- the exit status: 3 where a locator has no run for want of memory, else 0 where each has a run,
+-- and 1 where one has none for another cause
 abbrev pub status_of : List AnchorOutcome → ℕ
-status_of outcomes = if list_all (λ p. is_ok p.outcome) outcomes then 0 else 1
+status_of outcomes =
+    if memory_ran_out outcomes then 3 else if all_have_runs outcomes then 0 else 1
 
 -- What the runs under these locators come to, one by one.
 abbrev pub AreOutcomes : Party → List NamedLocator → List AnchorOutcome → Type 0

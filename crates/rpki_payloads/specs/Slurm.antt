@@ -1,5 +1,6 @@
 -- Local exceptions over sets of payloads (RFC 8416, and draft-ietf-sidrops-aspa-slurm for ASPAs).
 pub mod Said
+pub mod Valid
 use Rattle.std.specs.Prelude.{ℕ, ◌-◌, ◌/◌, ◌^◌, ◌==◌, ◌&&◌, ◌||◌, Bool, true, false, not, nat_le}
 use Rattle.std.specs.Prelude.{List, [], ◌∷◌, Option, None, Some, min, unwrap_or, map}
 use Rattle.std.specs.List.{list_any}

@@ -3,7 +3,7 @@
 ghost use Rattle.std.specs.Prelude.{◌≡◌, is_ok};
 ghost use Rattle.rpki_relying_party.specs.Passes.{setting};
 ghost use Rattle.rpki_show.specs.Grows.{Grows};
-ghost use Rattle.rpki_payloads.specs.Outcomes.{IsNamedOutcome, IsOutcome};
+ghost use Rattle.rpki_payloads.specs.Outcomes.{IsNamedOutcome, IsOutcome, is_memory, lacks_memory};
 ghost use Rattle.rpki_payloads.specs.Report.{found_under, outcome_line};
 
 use crate::found::AnchorFindings;
@@ -64,6 +64,18 @@ fn outcome_under<R: Repository, C: Crypto>(
     }
 }
 
+// Whether the cause is want of memory.
+fn is_memory(fault: &RunFault) -> bool
+    ensures { result ≡ is_memory fault.now }
+{
+    match fault {
+        RunFault::Anchor(_) => false,
+        RunFault::Point(_) => false,
+        RunFault::Limit => false,
+        RunFault::Memory => true,
+    }
+}
+
 impl<'a> AnchorOutcome<'a> {
     /// What the run under this locator comes to. That memory ran out is an outcome too.
     pub(crate) fn of_run<R: Repository, C: Crypto>(
@@ -87,6 +99,16 @@ impl<'a> AnchorOutcome<'a> {
         ensures { result ≡ is_ok self.now.outcome }
     {
         self.outcome.is_ok()
+    }
+
+    /// Whether there is no run for want of memory.
+    pub(crate) fn lacks_memory(&self) -> bool
+        ensures { result ≡ lacks_memory self.now.outcome }
+    {
+        match &self.outcome {
+            Ok(_) => false,
+            Err(fault) => is_memory(fault),
+        }
     }
 
     /// What was found, if there is a run.

@@ -4,7 +4,7 @@ ghost use Rattle.std.specs.Prelude.{◌≡◌, ◌++◌, IfOk, string_bytes};
 ghost use Rattle.rpki_payloads.specs.Formats.{IsPayloadsText};
 ghost use Rattle.rpki_payloads.specs.Texts.Refusals.{refusals_text};
 ghost use Rattle.rpki_payloads.specs.Report.{IsReport, IsReportOf, found_in, faults_text};
-ghost use Rattle.rpki_payloads.specs.Report.{status_of};
+ghost use Rattle.rpki_payloads.specs.Report.{all_have_runs, memory_ran_out, status_of};
 ghost use Rattle.rpki_payloads.specs.Party.{party_of};
 
 use crate::formats::{PayloadFormat, push_payloads};
@@ -21,8 +21,11 @@ use std::alloc::{AllocError, Global};
 /// The exit status where each locator has a run.
 const ANSWERED: u8 = 0;
 
-/// The exit status where one has none.
+/// The exit status where one has none, but not for want of memory.
 const REFUSED: u8 = 1;
+
+/// The exit status where one has none for want of memory.
+const OUT_OF_MEMORY: u8 = 3;
 
 /// What is reported of runs under locators.
 #[derive(Debug, Drop)]
@@ -31,7 +34,8 @@ pub struct PayloadsReport {
     pub out: String,
     /// What is refused, a line for each, for standard error.
     pub err: String,
-    /// The exit status: 0 where each locator has a run, else 1.
+    /// The exit status: 3 where a locator has no run for want of memory; else 0 where each has a
+    /// run, and 1 where one has none for another cause.
     pub status: u8,
 }
 
@@ -73,11 +77,27 @@ fn report_outcomes(
     })
 }
 
-// The exit status.
+// Whether a locator has no run for want of memory.
+fn memory_ran_out(outcomes: &[AnchorOutcome<'_>]) -> bool
+    ensures { result ≡ memory_ran_out outcomes.now }
+{
+    outcomes.iter().any(|one| one.lacks_memory())
+}
+
+// Whether each locator has a run.
+fn all_have_runs(outcomes: &[AnchorOutcome<'_>]) -> bool
+    ensures { result ≡ all_have_runs outcomes.now }
+{
+    outcomes.iter().all(|one| one.is_ok())
+}
+
+// The exit status. Want of memory comes first: then the answer may be another one at the next run.
 fn status_of(outcomes: &[AnchorOutcome<'_>]) -> u8
     ensures { result ≡ status_of outcomes.now }
 {
-    if outcomes.iter().all(|one| one.is_ok()) {
+    if memory_ran_out(outcomes) {
+        OUT_OF_MEMORY
+    } else if all_have_runs(outcomes) {
         ANSWERED
     } else {
         REFUSED

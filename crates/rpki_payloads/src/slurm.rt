@@ -7,11 +7,13 @@ ghost use Rattle.rpki_payloads.specs.Slurm.{drops_origin, drops_provider, drops,
 ghost use Rattle.rpki_payloads.specs.Slurm.{asserted};
 ghost use Rattle.rpki_payloads.specs.Slurm.Said.{IsExceptionsText};
 
+mod misfit;
 mod prefix;
 mod said;
 mod several;
 mod text;
 
+pub use misfit::Misfit;
 pub use prefix::SlurmPrefix;
 use rpki_relying_party::{Origin, Provider};
 use said::Said;
@@ -20,7 +22,7 @@ pub use several::{are_apart, overlap};
 use std::alloc::Global;
 use std::fmt;
 pub use text::{
-    AspaAssertion, AspaFilter, Assertions, Exceptions, Filters, Misfit, NoPrefix, PrefixAssertion,
+    AspaAssertion, AspaFilter, Assertions, Exceptions, Filters, NoPrefix, PrefixAssertion,
     PrefixFilter, RouterKeyAssertion, RouterKeyFilter,
 };
 

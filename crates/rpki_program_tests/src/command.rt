@@ -3,8 +3,8 @@
 //!
 //! The expected values follow from the profile by hand, or are those of other programs. A test
 //! hands on that memory ran out and asserts everything else, so `tools/growth` can refuse each of
-//! its allocations in turn. Other contents and files, streams that fail at each of their calls,
-//! long lists, and objects that are checked are in the sweeps.
+//! its allocations in turn. Other contents, objects and words are cases of `rows/`; streams that
+//! fail at each of their calls are in the sweeps.
 
 mod asked;
 mod attestations;

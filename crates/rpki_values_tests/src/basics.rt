@@ -2,8 +2,7 @@
 //!
 //! The expected values stand in the standards, follow from them by hand, or are those of Python's
 //! datetime. A test hands want of memory on and asserts everything else, so `tools/growth` can
-//! refuse each of its allocations in turn. Texts of errors, and the signer's keys, are in the
-//! sweeps.
+//! refuse each of its allocations in turn. Texts of errors are in the sweeps.
 
 mod dates;
 mod digests;

@@ -2,8 +2,8 @@
 //!
 //! The expected values stand in X.690 or follow from it by hand. A test hands want of memory on and
 //! asserts everything else, so `tools/growth` can refuse each of its allocations in turn. Rows that
-//! are cut and followed, long and deep input, how often a stream is called, and texts of errors are
-//! in the sweeps.
+//! are cut and followed, deep input, how often a stream is called, and texts of errors are in the
+//! sweeps.
 
 mod calls;
 mod lengths;

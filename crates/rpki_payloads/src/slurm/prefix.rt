@@ -4,6 +4,7 @@ ghost use Rattle.std.specs.Prelude.{◌≡◌, IfSome};
 ghost use Rattle.std.specs.Net.Grammar.{IsIpText, IsNumber};
 ghost use Rattle.rpki_payloads.specs.Slurm.{front, covers, meets};
 ghost use Rattle.rpki_payloads.specs.Slurm.Said.{IsPrefixText, bits_in, family_in};
+ghost use Rattle.rpki_payloads.specs.Slurm.Valid.{most_bits};
 
 use rpki_relying_party::Origin;
 use serde::Deserialize;
@@ -20,7 +21,9 @@ pub struct SlurmPrefix {
 }
 
 /// How many bits an address of this family has.
-pub(crate) fn most_bits(family: u8) -> u8 {
+pub(crate) fn most_bits(family: u8) -> u8
+    ensures { result ≡ most_bits family }
+{
     if family == 1 { 32 } else { 128 }
 }
 
@@ -63,8 +66,9 @@ fn len_of(digits: &str) -> Option<u8>
 }
 
 impl SlurmPrefix {
-    /// The prefix that a text writes, as `192.0.2.0/24`, unless an address of it has a bit after
-    /// its length.
+    /// The prefix that a text writes, as `192.0.2.0/24`, unless it is longer than an address or has
+    /// a bit after its length.
+    #[tactic(auto, using(crate::proofs::Limited::aligned))]
     pub fn of_text(text: &str) -> Option<SlurmPrefix>
         ensures { IfSome result (IsPrefixText text.now) }
     {

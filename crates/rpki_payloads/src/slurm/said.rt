@@ -1,16 +1,19 @@
 //! Local exceptions, held against the JSON value of their text.
 
-ghost use Rattle.std.specs.Prelude.{◌≡◌, true, option_map};
+ghost use Rattle.std.specs.Prelude.{◌≡◌, true, map, nat_eq, option_map, string_bytes};
+ghost use Rattle.std.specs.BTreeMap.{keys};
+ghost use Rattle.std.specs.Cmp.Lexicographic.{pointwise};
+ghost use Rattle.std.specs.List.{list_all, list_any};
 ghost use Rattle.serde_json.specs.View.{items_view, view};
-ghost use Rattle.rpki_payloads.specs.Slurm.Said.{IsCustomerOf, ItemsSay, ListMaySay, MaySay};
-ghost use Rattle.rpki_payloads.specs.Slurm.Said.{MemberSays};
+ghost use Rattle.rpki_payloads.specs.Slurm.Said.{ItemsSay, ListMaySay, MaySay, MemberSays};
+ghost use Rattle.rpki_payloads.specs.Slurm.Said.{OnlyHas, either_member};
 
 use crate::slurm::prefix::SlurmPrefix;
 use crate::slurm::text::{
     AspaAssertion, AspaFilter, Assertions, Exceptions, Filters, PrefixAssertion, PrefixFilter,
     RouterKeyAssertion, RouterKeyFilter,
 };
-use serde_json::Value;
+use serde_json::{Map, Value};
 
 /// What a JSON value can say.
 pub(crate) trait Said {
@@ -22,6 +25,31 @@ pub(crate) trait Said {
     /// Whether the value says this.
     fn is_said(&self, value: &Value) -> bool
         ensures { result ≡ true → says (view value.now) self.now };
+}
+
+// Whether a name is one of these.
+fn is_among(name: &String, names: &[&str]) -> bool
+    ensures { result ≡ list_any (λ n. pointwise nat_eq n.now (string_bytes name.now)) names.now }
+{
+    names.iter().any(|one| *one == name.as_str())
+}
+
+// Whether each member has one of these names.
+fn are_among(members: &Map<String, Value>, names: &[&str]) -> bool
+    ensures { result ≡ list_all (λ k. list_any (λ n. pointwise nat_eq n.now (string_bytes k))
+        names.now) (keys members.now) }
+{
+    members.keys().all(|name| is_among(name, names))
+}
+
+// Whether the value is an object that has no members but those with these names.
+fn only_has(value: &Value, names: &[&str]) -> bool
+    ensures { result ≡ true → OnlyHas (map (λ n. n.now) names.now) (view value.now) }
+{
+    match value.as_object() {
+        None => false,
+        Some(members) => are_among(members, names),
+    }
 }
 
 // Whether a member is there and says this.
@@ -74,12 +102,30 @@ fn are_said<T: Said>(items: &[Value], found: &[T]) -> bool
     true
 }
 
-// Whether the value names this customer, by either name of the member.
-fn is_customer(value: &Value, customer: u32) -> bool
-    ensures { result ≡ true → IsCustomerOf (view value.now) customer }
+// Whether a member by either of two names is there and says this.
+fn is_either<T: Said>(member: Option<&Value>, other: Option<&Value>, found: &T) -> bool
+    ensures { result ≡ true → MemberSays T.says (either_member
+        (option_map (λ v. view v.now) member.entry) (option_map (λ v. view v.now) other.entry))
+        found.now }
 {
-    is_member(value.get("customerAsn"), &customer)
-        || is_member(value.get("customerAsid"), &customer)
+    match (member, other) {
+        (None, other) => is_member(other, found),
+        (member, None) => is_member(member, found),
+        (Some(_), Some(_)) => false,
+    }
+}
+
+impl Said for String {
+    ghost use Rattle.rpki_payloads.specs.Slurm.Said.{IsTextOf};
+
+    ghost says = { IsTextOf };
+
+    fn is_said(&self, value: &Value) -> bool {
+        match value.as_str() {
+            None => false,
+            Some(text) => text == self.as_str(),
+        }
+    }
 }
 
 impl Said for u8 {
@@ -147,8 +193,10 @@ impl Said for PrefixFilter {
     ghost says = { IsPrefixFilterOf };
 
     fn is_said(&self, value: &Value) -> bool {
-        is_maybe(value.get("prefix"), self.prefix.as_ref())
+        only_has(value, &["prefix", "asn", "comment"])
+            && is_maybe(value.get("prefix"), self.prefix.as_ref())
             && is_maybe(value.get("asn"), self.asn.as_ref())
+            && is_maybe(value.get("comment"), self.comment.as_ref())
     }
 }
 
@@ -158,7 +206,10 @@ impl Said for RouterKeyFilter {
     ghost says = { IsRouterKeyFilterOf };
 
     fn is_said(&self, value: &Value) -> bool {
-        is_maybe(value.get("asn"), self.asn.as_ref())
+        only_has(value, &["asn", "SKI", "comment"])
+            && is_maybe(value.get("asn"), self.asn.as_ref())
+            && is_maybe(value.get("SKI"), self.key.as_ref())
+            && is_maybe(value.get("comment"), self.comment.as_ref())
     }
 }
 
@@ -168,7 +219,13 @@ impl Said for AspaFilter {
     ghost says = { IsAspaFilterOf };
 
     fn is_said(&self, value: &Value) -> bool {
-        is_customer(value, self.customer_asn)
+        only_has(value, &["customerAsn", "customerAsid", "comment"])
+            && is_either(
+                value.get("customerAsn"),
+                value.get("customerAsid"),
+                &self.customer_asn,
+            )
+            && is_maybe(value.get("comment"), self.comment.as_ref())
     }
 }
 
@@ -178,7 +235,8 @@ impl Said for Filters {
     ghost says = { AreFiltersOf };
 
     fn is_said(&self, value: &Value) -> bool {
-        is_member(value.get("prefixFilters"), &self.prefix_filters)
+        only_has(value, &["prefixFilters", "bgpsecFilters", "aspaFilters"])
+            && is_member(value.get("prefixFilters"), &self.prefix_filters)
             && is_member(value.get("bgpsecFilters"), &self.bgpsec_filters)
             && is_list_or_none(value.get("aspaFilters"), &self.aspa_filters)
     }
@@ -190,9 +248,11 @@ impl Said for PrefixAssertion {
     ghost says = { IsPrefixAssertionOf };
 
     fn is_said(&self, value: &Value) -> bool {
-        is_member(value.get("prefix"), &self.prefix)
+        only_has(value, &["prefix", "asn", "maxPrefixLength", "comment"])
+            && is_member(value.get("prefix"), &self.prefix)
             && is_member(value.get("asn"), &self.asn)
             && is_maybe(value.get("maxPrefixLength"), self.max_len.as_ref())
+            && is_maybe(value.get("comment"), self.comment.as_ref())
     }
 }
 
@@ -202,7 +262,11 @@ impl Said for RouterKeyAssertion {
     ghost says = { IsRouterKeyAssertionOf };
 
     fn is_said(&self, value: &Value) -> bool {
-        is_member(value.get("asn"), &self.asn)
+        only_has(value, &["asn", "SKI", "routerPublicKey", "comment"])
+            && is_member(value.get("asn"), &self.asn)
+            && is_member(value.get("SKI"), &self.key)
+            && is_member(value.get("routerPublicKey"), &self.public_key)
+            && is_maybe(value.get("comment"), self.comment.as_ref())
     }
 }
 
@@ -212,9 +276,24 @@ impl Said for AspaAssertion {
     ghost says = { IsAspaAssertionOf };
 
     fn is_said(&self, value: &Value) -> bool {
-        is_customer(value, self.customer_asn)
-            && (is_member(value.get("providerAsns"), &self.provider_asns)
-                || is_member(value.get("providers"), &self.provider_asns))
+        only_has(
+            value,
+            &[
+                "customerAsn",
+                "customerAsid",
+                "providerAsns",
+                "providers",
+                "comment",
+            ],
+        ) && is_either(
+            value.get("customerAsn"),
+            value.get("customerAsid"),
+            &self.customer_asn,
+        ) && is_either(
+            value.get("providerAsns"),
+            value.get("providers"),
+            &self.provider_asns,
+        ) && is_maybe(value.get("comment"), self.comment.as_ref())
     }
 }
 
@@ -224,7 +303,10 @@ impl Said for Assertions {
     ghost says = { AreAssertionsOf };
 
     fn is_said(&self, value: &Value) -> bool {
-        is_member(value.get("prefixAssertions"), &self.prefix_assertions)
+        only_has(
+            value,
+            &["prefixAssertions", "bgpsecAssertions", "aspaAssertions"],
+        ) && is_member(value.get("prefixAssertions"), &self.prefix_assertions)
             && is_member(value.get("bgpsecAssertions"), &self.bgpsec_assertions)
             && is_list_or_none(value.get("aspaAssertions"), &self.aspa_assertions)
     }
@@ -236,7 +318,14 @@ impl Said for Exceptions {
     ghost says = { AreExceptionsOf };
 
     fn is_said(&self, value: &Value) -> bool {
-        is_member(value.get("slurmVersion"), &self.version)
+        only_has(
+            value,
+            &[
+                "slurmVersion",
+                "validationOutputFilters",
+                "locallyAddedAssertions",
+            ],
+        ) && is_member(value.get("slurmVersion"), &self.version)
             && is_member(value.get("validationOutputFilters"), &self.filters)
             && is_member(value.get("locallyAddedAssertions"), &self.assertions)
     }

@@ -1,7 +1,7 @@
 //! The text of local exceptions: one JSON object, whose members are those of RFC 8416, section 3,
 //! or, in version 2, of draft-ietf-sidrops-aspa-slurm too.
 
-use crate::slurm::prefix::{SlurmPrefix, most_bits};
+use crate::slurm::prefix::SlurmPrefix;
 use serde::Deserialize;
 use std::fmt;
 
@@ -115,73 +115,4 @@ pub struct Exceptions {
     pub filters: Filters,
     #[serde(rename = "locallyAddedAssertions")]
     pub assertions: Assertions,
-}
-
-/// What of a file is refused though each member has its type: the version, or an item of a list, by
-/// its place in it; or that its text reads as something else.
-#[derive(Clone, Copy, Debug, PartialEq, Eq)]
-pub enum Misfit {
-    Version,
-    Filter(usize),
-    Assertion(usize),
-    Aspa(usize),
-    Reading,
-}
-
-impl fmt::Display for Misfit {
-    fn fmt<W: fmt::Write>(&self, f: &mut fmt::Formatter<W>) -> fmt::Result {
-        match self {
-            Misfit::Version => f.write_str("slurmVersion is not 1, or 2 where there are ASPAs"),
-            Misfit::Filter(at) => write!(f, "prefixFilters[{at}] has no prefix and no asn"),
-            Misfit::Assertion(at) => write!(
-                f,
-                "prefixAssertions[{at}] has another maxPrefixLength"
-            ),
-            Misfit::Aspa(at) => write!(f, "aspaAssertions[{at}] has no provider"),
-            Misfit::Reading => f.write_str("its text reads as something else"),
-        }
-    }
-}
-
-impl Exceptions {
-    /// What of the file is refused, if anything is.
-    pub fn misfit(&self) -> Option<Misfit> {
-        let Filters {
-            prefix_filters,
-            aspa_filters,
-            ..
-        } = &self.filters;
-        let Assertions {
-            prefix_assertions,
-            aspa_assertions,
-            ..
-        } = &self.assertions;
-        let has_aspas = !aspa_filters.is_empty() || !aspa_assertions.is_empty();
-        if self.version != 2 && (self.version != 1 || has_aspas) {
-            return Some(Misfit::Version);
-        }
-        let is_empty = |filter: &PrefixFilter| filter.prefix.is_none() && filter.asn.is_none();
-        if let Some(at) = prefix_filters.iter().position(is_empty) {
-            return Some(Misfit::Filter(at));
-        }
-        if let Some(at) = prefix_assertions
-            .iter()
-            .position(|assertion| !assertion.is_sound())
-        {
-            return Some(Misfit::Assertion(at));
-        }
-        aspa_assertions
-            .iter()
-            .position(|assertion| assertion.provider_asns.is_empty())
-            .map(Misfit::Aspa)
-    }
-}
-
-impl PrefixAssertion {
-    // Whether the maximum length is one of the prefixes in this one.
-    fn is_sound(&self) -> bool {
-        let SlurmPrefix { family, len, .. } = self.prefix;
-        let longest = self.max_len.unwrap_or(len);
-        len <= longest && longest <= most_bits(family)
-    }
 }

@@ -25,9 +25,9 @@ use rpki_rsa::Rsa;
 use std::alloc::{AllocError, Global};
 
 /// Lists the payloads under locators at this moment, as these folders have them, after the local
-/// exceptions of files. The status is 0 where each locator has a run, and 1 where one has none; 2
-/// where a file is no locator or no file of exceptions, or two of these speak of the same, and 4
-/// where one can't be read. Refuses where memory runs out.
+/// exceptions of files. The status is 0 where each locator has a run, 3 where one has none for want
+/// of memory, and else 1; 2 where a file is no locator or no file of exceptions, or two of these
+/// speak of the same, and 4 where one can't be read. Refuses where memory runs out.
 pub fn payloads<S: Store, F: Folders>(
     alloc: Global,
     request: &PayloadsRequest<'_>,
@@ -120,7 +120,7 @@ fn report_after<F: Folders>(
         mut err,
         status,
     } = report;
-    if status != 0 {
+    if status == 1 {
         push_places(alloc, &mut err, request.copy, locators, folders)?;
     }
     Ok(Report { out, err, status })

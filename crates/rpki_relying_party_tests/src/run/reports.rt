@@ -249,7 +249,7 @@ static LACKING: [(&str, Asked, Wanted); 4] = [
              refused rsync://h/m/b/b.mft: manifest is not in the copy \
              (under rsync://h/m/t/t.mft, one)\n\
              refused rsync://h/m/t/x.roa: malformed (under rsync://h/m/t/t.mft, one)\n",
-            1,
+            3,
         ),
     ),
     (
@@ -267,14 +267,14 @@ static LACKING: [(&str, Asked, Wanted); 4] = [
              refused rsync://h/m/b/b.mft: manifest is not in the copy \
              (under rsync://h/m/t/t.mft, one)\n\
              refused rsync://h/m/t/x.roa: malformed (under rsync://h/m/t/t.mft, one)\n",
-            1,
+            3,
         ),
     ),
     // one of the trust anchor's own point, and one of a point below it
     (
         "h/m/t/t.crl",
         (PayloadFormat::Lines, 2027, MOST, &["one.tal"], &[LOCATOR]),
-        Wanted::Reported("", "refused one: out of memory\n", 1),
+        Wanted::Reported("", "refused one: out of memory\n", 3),
     ),
     (
         "h/m/a/a.mft",
