@@ -10,7 +10,7 @@
  * What C has to see to: each pointer leads to as many items as its length or room says (octets of
  * a text, rows of others), or is NULL if that is 0; question, edition, length and count are not
  * NULL; what a call writes overlaps nothing else that it is given; nobody changes what it reads
- * while it runs; and there are 128 KiB of stack. Octets may be any, and numbers too. */
+ * while it runs; and there are 128 KiB of stack. Octets and numbers may have any value. */
 #ifndef RPKI_CHECK_H
 #define RPKI_CHECK_H
 
@@ -21,8 +21,8 @@
 extern "C" {
 #endif
 
-/* The library has these calls if the upper 16 bits of its version are the same, which are the
- * number of librpki_check.so.1, and the lower 16 are no smaller. */
+/* A library is compatible with this header if the upper 16 bits of its rpki_check_version() are
+ * the same (the number in librpki_check.so.1) and the lower 16 bits are not less. */
 #define RPKI_CHECK_VERSION 0x00010000
 uint32_t rpki_check_version(void);
 
@@ -121,7 +121,7 @@ typedef struct rpki_moment {
 	uint8_t month, day, hour, minute, second;
 } rpki_moment;
 
-/* Under which certificates and lists, when and how is checked. Begin with zeros. */
+/* What to check against: certificates, revocation lists, a moment, options. Start from { 0 }. */
 typedef struct rpki_question {
 	rpki_octets anchor;         /* a trust anchor's certificate; all of these in DER */
 	const rpki_octets *chain;   /* those of CAs, each under the one before: */
@@ -141,8 +141,8 @@ typedef struct rpki_question {
  * ignored. The times of lists are not looked at. Of an attestation, the issuer is the one CA under
  * which it may be granted, and lists count for those of its certificates that this CA issued.
  *
- * The text is what a good object says, a line an item, as `rpki_verify check` has them below its
- * yes, or why there is none. It is UTF-8 without a 0 at its end.
+ * The text is the lines that `rpki_verify check` prints below `yes`, or why the object is not
+ * good. It is UTF-8, and not terminated by a 0.
  *
  * *length is always the length of the whole text; it and the room are in octets. The text is
  * written if it fits, and else nothing is: call again with a room of *length, which gives the same
@@ -210,13 +210,13 @@ uint32_t rpki_check_checklist(const rpki_question *question, const uint8_t *obje
     size_t object_length, rpki_file *files, size_t room, size_t *count, uint8_t *octets,
     size_t octets_room, size_t *length);
 
-/* Whether a signature of a message is one by RSASSA-PKCS1-v1_5 with SHA-256 by this key, the bits
- * of a subjectPublicKey, of 2048 to 4096 bits with exponent 65537: RPKI_GOOD or
+/* Verifies a signature of a message: RSASSA-PKCS1-v1_5 with SHA-256. The key is the bits of a
+ * subjectPublicKey: RSA of 2048 to 4096 bits, with exponent 65537. The answer is RPKI_GOOD or
  * RPKI_BAD_SIGNATURE, unless memory runs out. */
 uint32_t rpki_check_signature(const uint8_t *key, size_t key_length, const uint8_t *message,
     size_t message_length, const uint8_t *signature, size_t signature_length);
 
-/* A number that grows with time, and is another one for each moment. */
+/* A number for a moment: different for each, and greater for a later one. */
 static inline uint64_t rpki_stamp_of(rpki_moment m)
 {
 	return ((((m.year * UINT64_C(13) + m.month) * 32 + m.day) * 24 + m.hour) * 60
