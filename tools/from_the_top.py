@@ -15,7 +15,7 @@ from definitions import TOP, sentence
 HEAD = """\
 # Specification
 
-What a yes of the programs means, and what a payload is that they print: first the promises, as the
+What a yes of the programs means, and what a printed payload means: first the promises, as the
 sources have them, and then each definition that they rest on, from the top down to the octets. A
 definition has one place, after the first that cites it: its name, a sentence with the section of the
 standard, its text, and after → the names in it and the types of its arguments that have a place of
@@ -33,7 +33,7 @@ that it is this project's own rule, and [DECISIONS.md](DECISIONS.md) has all of 
   is what they begin with, whatever follows. Names that end in `_text` are what is printed.
 - `P × Q` is both, `P ⊎ Q` one of them, `P → Q` that Q follows, `¬ P` and `P → ⊥` that P does not hold,
   `Unit {0}` what always holds, `⊥` what never does. `(x : A) × P` says that there is an x, and
-  `(x : A) → P` that it holds of each. `Type 0` is the type of all that may hold or not.
+  `(x : A) → P` that it holds of each. `Type 0` is the type of propositions.
 - `a ≡ b` says that they are equal, `a ≢ b` that they are not; `==`, `&&`, `||`, `not`, `nat_lt` and
   `nat_le` compute `true` or `false`, and `IsTrue` says that it is `true`.
 - `[]` is the list without entries, `x ∷ xs` the one that begins with x, `a ++ b` one after the other;
@@ -76,7 +76,7 @@ PROMISES = [
     (
         "A yes of `rpki_verify files`",
         "Where the status is 0, the manifest or the checklist is good, and the folder has each file that it "
-        "lists; where it is 1, one of both does not hold, or the certificates make no issuer.",
+        "lists; where it is 1, one of these does not hold, or the certificates make no issuer.",
         [("rpki_program", "verify/files", "files", ["ensures"])],
     ),
     (
