@@ -7,9 +7,8 @@ use Rattle.std.specs.declared.alloc.AllocError.{AllocError}
 use Rattle.rpki_basics.specs.Moment.{Moment}
 use Rattle.rpki_cli.specs.Store.{IsRead, Told}
 use Rattle.rpki_cli.specs.Words.{is_locator}
-use Rattle.rpki_validation.specs.Refusal.{is_memory}
 use Rattle.rpki_validation.specs.declared.refusal.Refusal.{Refusal}
-use Rattle.rpki_program.specs.Verify.Report.{IsRefused, IsStopped}
+use Rattle.rpki_program.specs.Verify.Report.{IsNoIssuer, IsRefused, IsStopped}
 use Rattle.rpki_program.specs.Verify.Rta.{AreAnchors, IsNoAnchor, IsNone}
 use Rattle.rpki_program.specs.Verify.Rta.{IsReportUnder, IsRtaReport}
 use Rattle.rpki_program.specs.Verify.Rta.{IsAnchorFrom, IsAnchorOf, IsIssued, IsLocated, IsUnder}
@@ -119,7 +118,7 @@ module _ (told : Told) (r : RtaRequest) (moment : Moment) where
 
 -- certificates make no issuer
 pub unissued-none : (None : Type 0) (refusal : Refusal) (text : List ℕ) (status : ℕ)
-    → ((is_memory refusal ≡ false) → None) → IsRefused refusal text status
+    → (IsNoIssuer refusal → None) → IsRefused refusal text status
     → IsNone None text status
 unissued-none None refusal text status why (inl h) = inl (inl h.0, h.1)
 unissued-none None refusal text status why (inr h) = inr (h.0, h.1, why h.2)

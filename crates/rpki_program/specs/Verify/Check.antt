@@ -13,7 +13,6 @@ use Rattle.rpki_der.specs.Write.Sink.{AppendsFront}
 use Rattle.rpki_validation.specs.Grounds.{AreGroundsOf, HasNoGrounds}
 use Rattle.rpki_sigobj.specs.Signed.Kind.{ObjectKind}
 use Rattle.rpki_validation.specs.Object.{IsNotGoodFor}
-use Rattle.rpki_validation.specs.Refusal.{is_memory}
 use Rattle.rpki_validation.specs.declared.grounds.Grounds.{Grounds}
 use Rattle.rpki_validation.specs.declared.question.Question.{Question}
 use Rattle.rpki_validation.specs.declared.refusal.Refusal.{Refusal}
@@ -21,7 +20,7 @@ use Rattle.rpki_program.specs.Verify.Entry.{IsEntry, IsJudgedFile, status_of}
 use Rattle.rpki_program.specs.Verify.Inputs.{HasNoAnswer, IsQuestionOf}
 use Rattle.rpki_program.specs.Verify.Judged.{IsJudged}
 use Rattle.rpki_program.specs.Verify.Kinds.{IsKindOf}
-use Rattle.rpki_program.specs.Verify.Report.{IsCut, IsLine, IsPut, IsStopped}
+use Rattle.rpki_program.specs.Verify.Report.{IsCut, IsLine, IsNoIssuer, IsPut, IsStopped}
 use Rattle.rpki_program.specs.declared.verify.check.entry.Entry.{Entry}
 use Rattle.rpki_program.specs.declared.verify.check.judged.Judged.TheVariants.{No, Yes}
 use Rattle.rpki_program.specs.declared.verify.request.CheckRequest.{CheckRequest}
@@ -80,17 +79,18 @@ AreNoLines true files text = (lines : List (List ℕ))
     × AllZip (λ (f : Bor (List ℕ)) (l : List ℕ). IsLine f.now false l) files lines
     × (text ≡ flat_map (λ l. l) lines)
 
--- what is reported then: what is to be a locator or a list is none, or this, and not for want of
--- memory
+-- what is reported then: where the certificates make no issuer, these lines and the status 1; else
+-- the status 2 and no text
 abbrev pub IsUngrounded : CheckRequest → Refusal → List ℕ → ℕ → Type 0
 IsUngrounded r refusal text status = ((status ≡ 2) × (text ≡ []))
-    ⊎ ((status ≡ 1) × (is_memory refusal ≡ false) × AreNoLines r.json r.files.items text)
+    ⊎ ((status ≡ 1) × IsNoIssuer refusal × AreNoLines r.json r.files.items text)
 
--- The question has no grounds, and not for want of memory; that is written, and the status is 1.
+-- The certificates make no issuer, and not for want of memory; that is written, and the status is
+-- 1.
 abbrev pub IsWithoutGrounds : CheckRequest → Question → Option (List ℕ) → Option (List ℕ) → ℕ
     → Type 0
 IsWithoutGrounds r q before after status = (refusal : Refusal) × HasNoGrounds q refusal
-    × (is_memory refusal ≡ false) × (text : List ℕ) × AreNoLines r.json r.files.items text
+    × IsNoIssuer refusal × (text : List ℕ) × AreNoLines r.json r.files.items text
     × IsPut text 1 before after status
 
 -- The question has grounds, and on them the entries of the files are written.

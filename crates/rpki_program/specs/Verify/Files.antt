@@ -23,7 +23,7 @@ use Rattle.rpki_validation.specs.declared.question.Question.{Question}
 use Rattle.rpki_validation.specs.declared.refusal.Refusal.{Refusal}
 use Rattle.rpki_program.specs.Verify.Inputs.{HasNoAnswer, IsQuestionOf}
 use Rattle.rpki_program.specs.Verify.Kinds.{IsNameOf}
-use Rattle.rpki_program.specs.Verify.Report.{IsAnswer, IsNoUnlessZero, IsRight, IsStopped}
+use Rattle.rpki_program.specs.Verify.Report.{IsAnswer, IsNoIssuer, IsNoUnlessZero, IsRight, IsStopped}
 use Rattle.rpki_program.specs.declared.verify.folders.Folder.{Folder as Paths}
 use Rattle.rpki_program.specs.declared.verify.folders.State.{State}
 use Rattle.rpki_program.specs.declared.verify.folders.State.TheVariants as states
@@ -211,10 +211,10 @@ abbrev pub IsSaidOf : FilesRequest → ℕ → List ℕ → ℕ → Type 0
 IsSaidOf r compared text status =
     (status ≡ compared) × IsAnswer r.json r.object.now (compared == 0) text
 
--- where a question has no grounds for this: a no only where that is not for want of memory
+-- where a question has no grounds for this: a no only where the certificates make no issuer
 abbrev pub IsUngrounded : FilesRequest → Refusal → List ℕ → ℕ → Type 0
 IsUngrounded r refusal text status =
-    IsNoAnswer text status ⊎ (IsNo r text status × (is_memory refusal ≡ false))
+    IsNoAnswer text status ⊎ (IsNo r text status × IsNoIssuer refusal)
 
 -- what is reported of an object of this kind with these octets: it is refused, or good, and the
 -- folder has its files or not
@@ -262,7 +262,7 @@ abbrev pub IsYesOfFiles : Told → Named → FilesRequest → Moment → Type 0
 IsYesOfFiles told named r moment = IsAskedOf told named r moment
     (λ g f kind octets. IsGoodWith r g kind octets (All (IsHeld f)))
 
--- A no is right: the question has no grounds, and not for want of memory; or the object is refused;
+-- A no is right: the certificates make no issuer, and not for want of memory; or the object is refused;
 -- or it is good, and the folder lacks one of its files.
 abbrev pub IsNoOfFiles : Told → Named → FilesRequest → Moment → Type 0
 IsNoOfFiles told named r moment =

@@ -5,10 +5,10 @@ use Rattle.rpki_basics.specs.Moment.{Moment}
 use Rattle.rpki_cli.specs.Store.{AreReadTo, IsRead, Names, Told}
 use Rattle.rpki_cli.specs.Words.{texts}
 use Rattle.rpki_validation.specs.Grounds.{HasNoGrounds, locator_octets}
-use Rattle.rpki_validation.specs.Refusal.{is_memory}
 use Rattle.rpki_validation.specs.declared.question.Manner.{Manner}
 use Rattle.rpki_validation.specs.declared.question.Question.{Question}
 use Rattle.rpki_validation.specs.declared.refusal.Refusal.{Refusal}
+use Rattle.rpki_program.specs.Verify.Report.{IsNoIssuer}
 use Rattle.rpki_program.specs.declared.verify.inputs.Inputs.{Inputs}
 use Rattle.rpki_program.specs.declared.verify.request.IssuerFiles.{IssuerFiles}
 
@@ -50,6 +50,6 @@ abbrev pub IsQuestionOf : Told → IssuerFiles → Moment → Manner → Questio
 IsQuestionOf told under moment manner q =
     (inputs : Inputs) × AreTold told under inputs × IsQuestionOn inputs moment manner q
 
--- A question has no grounds, and not for want of memory.
+-- The certificates of a question make no issuer, and not for want of memory.
 abbrev pub HasNoAnswer : Question → Type 0
-HasNoAnswer q = (refusal : Refusal) × HasNoGrounds q refusal × (is_memory refusal ≡ false)
+HasNoAnswer q = (refusal : Refusal) × HasNoGrounds q refusal × IsNoIssuer refusal

@@ -14,8 +14,9 @@ use Rattle.serde_json.specs.Written.{IsInOrder}
 use Rattle.serde_json.specs.declared.value.Value.{Value}
 use Rattle.rpki_cli.specs.Answer.{Run}
 use Rattle.rpki_der.specs.Write.Sink.{AppendsFront}
-use Rattle.rpki_validation.specs.Refusal.{is_memory}
+use Rattle.rpki_validation.specs.Refusal.{is_memory_at_issuer}
 use Rattle.rpki_validation.specs.declared.refusal.Refusal.{Refusal}
+use Rattle.rpki_validation.specs.declared.refusal.Refusal.TheVariants.{Issuer}
 use Rattle.rpki_program.specs.declared.verify.report.Report.{Report}
 
 -- ---- statuses
@@ -75,11 +76,16 @@ abbrev pub IsNoUnlessZero : Bool → List ℕ → List ℕ → ℕ → Type 0
 IsNoUnlessZero json name text status =
     (status ≡ 0) ⊎ ((text ≡ []) ⊎ IsAnswer json name false text)
 
--- where a question has no grounds for this: in lines a no, and not for want of memory, or else the
--- status 2 and no text
+-- certificates make no issuer, and not for want of memory
+abbrev pub IsNoIssuer : Refusal → Type 0
+IsNoIssuer (Issuer fault) = is_memory_at_issuer fault ≡ false
+IsNoIssuer other = ⊥
+
+-- where a question has no grounds for this: in lines a no, where the certificates make no issuer; or
+-- else the status 2 and no text
 abbrev pub IsRefused : Refusal → List ℕ → ℕ → Type 0
 IsRefused refusal text status = ((status ≡ 2) × (text ≡ []))
-    ⊎ ((status ≡ 1) × SaysNoYes text × (is_memory refusal ≡ false))
+    ⊎ ((status ≡ 1) × SaysNoYes text × IsNoIssuer refusal)
 
 -- ---- what is written
 
