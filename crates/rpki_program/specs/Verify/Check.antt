@@ -80,8 +80,7 @@ AreNoLines true files text = (lines : List (List ℕ))
     × AllZip (λ (f : Bor (List ℕ)) (l : List ℕ). IsLine f.now false l) files lines
     × (text ≡ flat_map (λ l. l) lines)
 
--- what is reported then: what is to be a locator or a list is none, or this, and not for want of
--- memory
+-- what is reported then: status 2 and no text, or these lines and status 1, unless memory ran out
 abbrev pub IsUngrounded : CheckRequest → Refusal → List ℕ → ℕ → Type 0
 IsUngrounded r refusal text status = ((status ≡ 2) × (text ≡ []))
     ⊎ ((status ≡ 1) × (is_memory refusal ≡ false) × AreNoLines r.json r.files.items text)
@@ -147,8 +146,8 @@ pub record IsNoOfCheck (told : Told) (r : CheckRequest) (moment : Moment) : Type
   pub is_question : IsQuestionOf told r.under moment r.manner question
   pub none : HasNoAnswer question ⊎ IsNoOn told r question
 
--- Of octets that are said not to be good of this kind of files, on the grounds of a question, it is
--- so: in answer to the question they begin with no good object of this kind.
+-- If octets are judged bad as a file of this kind, on the grounds of a question, then they begin with
+-- no good object of this kind.
 abbrev pub SaysBad : {X : Type 0} → FileKind → ObjectKind X → (Question → List ℕ → X → Type 0)
     → Type 0
 SaysBad file kind form = (q : Question) (g : Grounds) (octets : List ℕ) (cause : String Global)
