@@ -111,7 +111,7 @@ _rpki_operand() {
     local -a forms=($operands)
     [[ ! $bare || ${stands[--ta]} ]] || ((!count)) || forms=($bare)
     local last=$((${#forms[@]} - 1))
-    if ((last > 0 && count >= last)) && [[ ${forms[last]} == .. ]]; then
+    if ((last > 0 && count >= last)) && [[ ${forms[last]} == ... ]]; then
         echo "${forms[last - 1]}"
     else
         echo "${forms[count]}"

@@ -95,7 +95,7 @@ REVOKED, NO_KIND = "refused: revoked by revoking\n", "skipped: no kind that is c
 UNREAD = "cannot be read: no such file\n"
 # A status, and what is said on both streams.
 LARGE, NONE = (3, "", "out of memory\n"), (4, "", "cannot read none: no such file\n")
-NO_TIME = 2, "", "cannot tell the time\n"
+NO_TIME = 2, "", "cannot read the clock\n"
 # What the folder has of the files of the manifest.
 STATES = "".join(f"{state} {name}\n" for state, name in (
     ("missing", "authority.crl"), ("differs", "broken.roa"), ("missing", "expired.roa"), ("held", "origin.roa"),
@@ -144,8 +144,8 @@ def usage():
     """What is said of a check of nothing."""
     rows = (TOP / "rows" / "verify_usage.jsonl").read_text().splitlines()
     alone = next(it for it in map(json.loads, rows) if it["name"] == "check: the usage of the command alone")
-    missing = "a word is missing after the options"
-    return alone["stderr"].replace(missing, "write --ta CER: the certificate of the trust anchor")
+    missing = "an operand is missing"
+    return alone["stderr"].replace(missing, "missing --ta CER: the certificate of the trust anchor")
 
 
 # Words, the status, and what is said on both streams. No clock tells the time.
@@ -187,7 +187,7 @@ MORE = [
     (show("first", "none", "large", kind="tal"), 3, entry("first", LOCATOR) + entry("none", UNREAD), LARGE[2]),
     (show("roa", kind="tal"), 1, MALFORMED, ""),
     (show("roa", "none.crl"), 4,
-     "roa: skipped: its name tells no kind, write --kind KIND\n" + entry("none.crl", UNREAD), ""),
+     "roa: skipped: unknown kind of file: give --kind KIND\n" + entry("none.crl", UNREAD), ""),
     (show("large", "none", kind="rta"), *LARGE),
     (held(), 1, "no\nmanifest\n" + STATES, ""),
     (held(options=["--json", *OPTIONS]), 1,

@@ -147,8 +147,8 @@ pub record IsNoOfCheck (told : Told) (r : CheckRequest) (moment : Moment) : Type
   pub is_question : IsQuestionOf told r.under moment r.manner question
   pub none : HasNoAnswer question ⊎ IsNoOn told r question
 
--- Of octets that are said not to be good of this kind of files, on the grounds of a question, it is
--- so: in answer to the question they begin with no good object of this kind.
+-- If octets are judged bad as a file of this kind, on the grounds of a question, then they begin with
+-- no good object of this kind.
 abbrev pub SaysBad : {X : Type 0} → FileKind → ObjectKind X → (Question → List ℕ → X → Type 0)
     → Type 0
 SaysBad file kind form = (q : Question) (g : Grounds) (octets : List ℕ) (cause : String Global)

@@ -58,7 +58,7 @@ abbrev pub IsText : Bool → Bool → List ℕ → Judged → List ℕ → Type 
 IsText true several name j text = IsLine name (is_yes j) text
 IsText false several name j text = text ≡ entry_text several name j
 
--- where it is no yes, its lines are none either, and they don't say that the file is passed over
+-- a no does not begin with `yes`, `skipped` or `cannot be read`
 abbrev pub SaysRight : Judged → Type 0
 SaysRight (Yes lines) = Unit {0}
 SaysRight (No cause) = SaysNoYes (said_of (No cause))

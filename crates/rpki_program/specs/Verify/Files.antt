@@ -77,7 +77,7 @@ abbrev pub HasFile : Folder → List ℕ → List ℕ → Type 0
 HasFile f hash name = (octets : List ℕ)
     × IsRead (f.told (path_in f.name name)) (Ok octets) × (sha256 octets ≡ hash)
 
--- it has one with this name and another hash, or none; or the name is no text
+-- the folder's file of this name has another hash, or there is none, or the name is not UTF-8
 abbrev pub LacksFile : Folder → List ℕ → List ℕ → Type 0
 LacksFile f hash name =
     ((octets : List ℕ) × IsRead (f.told (path_in f.name name)) (Ok octets)

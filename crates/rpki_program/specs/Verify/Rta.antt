@@ -110,7 +110,7 @@ pub record IsUnderAnchors (told : Told) (r : RtaRequest) (moment : Moment)
   pub is_read : IsRead (told r.object.now) (Ok octets)
   pub such : Such (map supply_of anchors) octets
 
--- A yes to a check of an attestation is right: they begin with one that is granted.
+-- A yes is right: the octets begin with an attestation that is granted.
 abbrev pub IsYesOfRta : Told → RtaRequest → Moment → List ℕ → Type 0
 IsYesOfRta told r moment text =
     IsUnderAnchors told r moment (λ supplies octets. IsGrantedUnder moment supplies octets text)

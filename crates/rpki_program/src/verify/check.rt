@@ -3,7 +3,7 @@
 
 pub mod cause;
 mod entry;
-pub mod hint;
+pub(crate) mod hint;
 pub mod json_line;
 pub mod judged;
 

@@ -366,7 +366,7 @@ fn push_no_texts(text: &mut String, count: u64) -> Result<(), AllocError> {
         0 => Ok(()),
         _ => write!(
             text,
-            "files whose names are no text, and which are not read: {count}\n"
+            "files not read, since their names are not UTF-8: {count}\n"
         ),
     }
 }

@@ -182,7 +182,7 @@ fn overlapping(alloc: Global) -> Result<Report, AllocError>
 {
     let err = String::from_str(
         alloc,
-        "two files of --slurm speak of the same addresses or AS\n",
+        "two --slurm files have entries for the same addresses or AS\n",
     )?;
     Ok(Report::complaint(alloc, err, FAILED))
 }

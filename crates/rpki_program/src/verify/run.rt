@@ -50,7 +50,13 @@ pub fn start<A: Arguments, S: Store, Y: System, O: Sink, E: Sink>(
 {
     match words_of(alloc, arguments) {
         Err(WordsError::Memory) => write_no_memory(err),
-        Err(WordsError::NoText) => complain(b"rpki_verify: a word is no text", "", "", FAILED, err),
+        Err(WordsError::NoText) => complain(
+            b"rpki_verify: an argument is not UTF-8",
+            "",
+            "",
+            FAILED,
+            err,
+        ),
         Ok(words) => match texts_of(alloc, &words) {
             Err(_) => write_no_memory(err),
             Ok(texts) => command(alloc, &texts, clock, store, system, out, err),
@@ -126,7 +132,7 @@ fn text(alloc: Global, text: Result<String, AllocError>) -> Result<Report, Alloc
 fn no_moment(alloc: Global) -> Result<Report, AllocError>
     ensures { IfOk result (λ r. (r.status ≡ 2) × (string_bytes r.out ≡ [])) }
 {
-    let err = String::from_str(alloc, "cannot tell the time\n")?;
+    let err = String::from_str(alloc, "cannot read the clock\n")?;
     Ok(Report::complaint(alloc, err, FAILED))
 }
 

@@ -60,7 +60,7 @@ fn entry<S: Store>(
     store: &mut S,
 ) -> Result<Said, AllocError> {
     let Some(kind) = kind_of_file(request.kind, file) else {
-        let why = "skipped: its name tells no kind, write --kind KIND";
+        let why = "skipped: unknown kind of file: give --kind KIND";
         return unshown(alloc, request, file, "", why, 1);
     };
     match store.read(alloc, file) {

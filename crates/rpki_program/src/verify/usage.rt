@@ -65,33 +65,31 @@ impl<T: Drop> From<AllocFailed<T>> for Fault<'_> {
 impl fmt::Display for Fault<'_> {
     fn fmt<W: fmt::Write>(&self, f: &mut fmt::Formatter<W>) -> fmt::Result {
         match self {
-            Fault::NoCommand => f.write_str("no command: write one of these"),
+            Fault::NoCommand => f.write_str("no command: use one of these"),
             Fault::UnknownCommand(word) => {
-                write!(f, "unknown command {word:?}: write one of these")
+                write!(f, "unknown command {word:?}: use one of these")
             }
             Fault::UnknownOption(word) => write!(
                 f,
-                "unknown option {word:?}: write -- before a file whose name begins with -"
+                "unknown option {word:?}: put -- before a file whose name begins with -"
             ),
             Fault::NoValue(name) | Fault::Missing(name) => {
                 let row = name.row();
-                write!(f, "write {} {}: {}", row.word, row.value, row.help)
+                write!(f, "missing {} {}: {}", row.word, row.value, row.help)
             }
             Fault::NoValueTaken(name) => write!(f, "{} takes no value", name.row().word),
-            Fault::NotHere(name) => write!(f, "this command has no {}", name.row().word),
-            Fault::Twice(name) => write!(f, "write {} once", name.row().word),
+            Fault::NotHere(name) => write!(f, "this command does not take {}", name.row().word),
+            Fault::Twice(name) => write!(f, "{} is given more than once", name.row().word),
             Fault::WrongValue(name, word) => {
                 let row = name.row();
-                write!(f, "write {} as {}, not as {word:?}", row.value, row.form)
+                write!(f, "invalid {} {word:?}: give {}", row.value, row.form)
             }
-            Fault::Unprintable => f.write_str("a word is empty or has a control character"),
-            Fault::TooFew => f.write_str("a word is missing after the options"),
-            Fault::TooMany(word) => write!(f, "one word too many: {word:?}"),
-            Fault::NoAnchors => f.write_str("write each ANCHOR as tal=FILE or ca=CER[:CER ..]"),
-            Fault::WithoutAnchor(name) => {
-                write!(f, "write --ta CER too, or no {}", name.row().word)
-            }
-            Fault::LongLines => f.write_str("write --long without --format, or with lines"),
+            Fault::Unprintable => f.write_str("an argument is empty or has a control character"),
+            Fault::TooFew => f.write_str("an operand is missing"),
+            Fault::TooMany(word) => write!(f, "unexpected operand {word:?}"),
+            Fault::NoAnchors => f.write_str("give each ANCHOR as tal=FILE or ca=CER[:CER ...]"),
+            Fault::WithoutAnchor(name) => write!(f, "{} needs --ta CER", name.row().word),
+            Fault::LongLines => f.write_str("--long is only for --format lines"),
             Fault::Memory => f.write_str("out of memory"),
         }
     }
@@ -148,11 +146,11 @@ pub fn help(alloc: Global, command: Option<CommandName>) -> Result<String, Alloc
                     push_option(alloc, &mut text, name)?;
                 }
             }
-            text.push_str("\nAfter -- each word is an operand; - is standard input.\n")?;
+            text.push_str("\nAfter --, every argument is an operand; - is standard input.\n")?;
         }
     }
     text.push_str(
-        "Status: 0 yes or shown, 1 no, 2 asked wrongly or not written, 3 out of memory, \
+        "Status: 0 yes or shown, 1 no, 2 wrong usage or output failed, 3 out of memory, \
         4 a file can't be read\n",
     )?;
     Ok(text)
@@ -160,7 +158,7 @@ pub fn help(alloc: Global, command: Option<CommandName>) -> Result<String, Alloc
 
 /// Appends the commands, a line each.
 fn push_commands(text: &mut String) -> Result<(), AllocError> {
-    text.push_str("usage: rpki_verify COMMAND ..\n")?;
+    text.push_str("usage: rpki_verify COMMAND ...\n")?;
     text.push_str("       rpki_verify COMMAND --help\n")?;
     text.push_str("       rpki_verify --help | --version\n")?;
     for command in COMMANDS {
@@ -220,7 +218,7 @@ fn synopsis_of(alloc: Global, row: OptionRow) -> Result<String, AllocError> {
     match row.times {
         Times::Once => format!(in alloc; "[{} {}]", row.word, row.value),
         Times::Always => format!(in alloc; "{} {}", row.word, row.value),
-        Times::Often => format!(in alloc; "[{} {} ..]", row.word, row.value),
+        Times::Often => format!(in alloc; "[{} {} ...]", row.word, row.value),
     }
 }
 

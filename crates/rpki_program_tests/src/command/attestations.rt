@@ -325,7 +325,7 @@ static CHECKED: [Row; 36] = [
     (
         By::WithoutClock,
         "rta empty.rta tal=tal",
-        Said::Error(2, "cannot tell the time\n"),
+        Said::Error(2, "cannot read the clock\n"),
         0,
     ),
     (

@@ -123,7 +123,7 @@ static ROWS: [Row; 19] = [
     (
         By::WithoutClock,
         "check --ta ta.cer --ca ca.cer origin.roa",
-        Said::Error(2, "cannot tell the time\n"),
+        Said::Error(2, "cannot read the clock\n"),
         0,
     ),
     (

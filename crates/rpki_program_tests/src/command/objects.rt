@@ -107,7 +107,7 @@ static ROWS: [Row; 23] = [
     (
         By::WithoutClock,
         "check --ta anchor.cer --ca authority.cer origin.roa",
-        Said::Error(2, "cannot tell the time\n"),
+        Said::Error(2, "cannot read the clock\n"),
         0,
     ),
     (

@@ -200,7 +200,7 @@ static ROWS: [Row; 30] = [
     (
         By::WithoutClock,
         "files --ta ta.cer held.mft d",
-        Said::Error(2, "cannot tell the time\n"),
+        Said::Error(2, "cannot read the clock\n"),
         0,
     ),
 ];
