@@ -21,7 +21,7 @@ def malformed(octets, cause=""):
     if cause:
         return f"malformed: {cause}"
     if octets.startswith(b"-----BEGIN "):
-        return "malformed: this is PEM: convert it to DER with openssl"
+        return "malformed: this is PEM, convert it to DER, as by openssl x509 -outform DER"
     return "malformed: ends early" if ends_early(octets) else "malformed"
 
 

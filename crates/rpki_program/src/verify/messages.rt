@@ -24,7 +24,7 @@ pub fn malformed(alloc: Global, octets: &[u8]) -> Result<String, AllocError>
     ensures { IfOk result (λ cause. SaysRight (No cause)) }
 {
     let hint = if octets.starts_with(PEM) {
-        ": this is PEM: convert it to DER with openssl"
+        ": this is PEM, convert it to DER, as by openssl x509 -outform DER"
     } else if ends_early(octets) {
         ": ends early"
     } else {

@@ -82,7 +82,7 @@ impl fmt::Display for Fault<'_> {
             Fault::Twice(name) => write!(f, "{} is given more than once", name.row().word),
             Fault::WrongValue(name, word) => {
                 let row = name.row();
-                write!(f, "invalid {} {word:?}: give {}", row.value, row.form)
+                write!(f, "write {} as {}, not as {word:?}", row.value, row.form)
             }
             Fault::Unprintable => f.write_str("an argument is empty or has a control character"),
             Fault::TooFew => f.write_str("an operand is missing"),
