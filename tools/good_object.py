@@ -201,10 +201,12 @@ class Specs:
             return self.files[path[0], "/".join(path[2:])].named.get(name)
         return None
 
-    def named(self, crate, name):
-        """The only definition of a crate with this name."""
+    def named(self, crate, name, digest=None):
+        """The only definition of a crate with this name; of several, that with a text of this digest."""
         files = [file for (c, _), file in self.files.items() if c == crate]
         found = [file.named[name] for file in files if name in file.named]
+        if len(found) > 1:
+            found = [made for made in found if made.digest() == digest]
         if len(found) != 1:
             raise Failure(f"docs/GOOD-OBJECT.in: {crate} has {len(found)} definitions {name}")
         return found[0]
@@ -301,7 +303,7 @@ class Specs:
             return match[1]
         head, *given = words(term)
         made = self.find(file, head)
-        if made and made.file.crate == "rpki_faults":
+        if made and made.file.module.startswith("Text/"):
             return self.shown(made.equations[0][1], made.file)
         return given[-1].split(".")[-1].upper()
 
@@ -542,7 +544,7 @@ def linked(specs, given):
     cited = {}
     for word in names:
         name, _, digest = word.partition("=")
-        made = specs.named(crate, name)
+        made = specs.named(crate, name, digest)
         if made.digest() != digest:
             raise Failure(
                 f"docs/GOOD-OBJECT.in: {name} of {crate} has another text than when the ASN.1 was "
