@@ -52,7 +52,8 @@ pub record IsGrantedFor (q : Question) (octets : List ℕ) : Type 0 where
   pub are : AreGroundsOf q grounds
   pub good : IsGoodRtaOn grounds octets
 
--- The same, and the identifiers of its certificates are distinct.
+-- The octets begin with an attestation that is granted, and the identifiers of its certificates are
+-- distinct.
 pub record IsSurelyGranted (q : Question) (octets : List ℕ) : Type 0 where
   pub granted : IsGrantedFor q octets
   pub distinct : IsDistinct sha256 is_rsa_signature granted.good.granted.object

@@ -14,7 +14,7 @@ abbrev pub from_zero : ℤ → ℕ
 from_zero (pos n) = n
 from_zero (negsuc n) = 0
 
--- The same as a number, where moments before 1970, of which that section says nothing, have the
--- count 0.
+-- The count of seconds since 1970-01-01T00:00:00Z; 0 for a moment before, of which that section says
+-- nothing.
 abbrev pub seconds_since : Moment → ℕ
 seconds_since m = from_zero (seconds_to m)

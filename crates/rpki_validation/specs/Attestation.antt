@@ -30,11 +30,11 @@ abbrev pub IsOfIssuer : Certificate → Certificate → Type 0
 IsOfIssuer issuer c =
     c.tbs.extensions.key.authority_key ≡ Some issuer.tbs.extensions.key.subject_key
 
--- None of the lists revokes the certificate, if it is of this issuer.
+-- None of the lists revokes this certificate, if it is of this issuer.
 abbrev pub IsUnrevokedOf : List KeptCrl → Certificate → Certificate → Type 0
 IsUnrevokedOf lists issuer c = IsOfIssuer issuer c → IsUnrevoked lists issuer c
 
--- The same of each of these certificates.
+-- None of the lists revokes any of these certificates that is of this issuer.
 abbrev pub AreUnrevokedOf : List KeptCrl → Certificate → List KeptCertificate → Type 0
 AreUnrevokedOf lists issuer certs = All (λ k. IsUnrevokedOf lists issuer k.certificate) certs
 
@@ -94,9 +94,9 @@ pub record IsGoodRtaOn (g : Grounds) (octets : List ℕ) : Type 0 where
   pub unrevoked : All (λ c. IsUnrevokedOf g.lists.items g.issuer.cert.certificate c)
       granted.object.signed.certs
 
--- What is found on grounds is an attestation only where the octets begin with a good one; where a
--- check refuses them, and not for want of memory, they begin with none that is granted and whose
--- identifiers are distinct; and where a list revokes a certificate of it, they begin with no good one.
+-- On any grounds an attestation is found only where the octets begin with a good one. Where a check
+-- refuses them, and not for want of memory, no attestation at their beginning is granted and has
+-- distinct identifiers. Where a list revokes one of its certificates, they begin with no good one.
 pub record IsRtaDecided : Type 0 where
   pub yes : (g : Grounds) (octets : List ℕ) (k : KeptWhole) → IsGrantedOn g octets (Ok k)
       → IsGoodRtaOn g octets

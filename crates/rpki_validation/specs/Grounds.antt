@@ -55,8 +55,9 @@ pub record HasNoIssuer (q : Question) (fault : IssuerFault) : Type 0 where
 abbrev pub IsLocated : Question → Type 0
 IsLocated q = (locator : Option Locator) × IsGiven (locator_octets q) locator
 
--- Why a question has no grounds, unless memory ran out: its locator is none; or that is one, and the
--- first list that is none is here; or all are there, and its certificates make no issuer.
+-- Why a question has no grounds: its locator is malformed; or the locator is good, and this is the
+-- place of its first malformed list; or both are good, and its certificates make no issuer. Want of
+-- memory is always possible.
 abbrev pub HasNoGrounds : Question → Refusal → Type 0
 HasNoGrounds q NoLocator = IsNoLocator (locator_octets q)
 HasNoGrounds q (NoList place) = IsLocated q × IsNoListAt q.lists.now place

@@ -20,28 +20,27 @@ use Rattle.rpki_validation.specs.declared.question.Question.{Question}
 use Rattle.rpki_validation.specs.declared.refusal.Refusal.{Refusal}
 use Rattle.rpki_validation.specs.declared.refusal.Refusal.TheVariants.{Check, Memory, Revoked}
 
--- What a check of octets answers on these grounds, where this is said of the certificate: a yes
--- exactly where they begin with an object of which every check holds and a yes is said, and else the
--- fault of the first check that fails (`Checks`, `IsExact`). Digests are SHA-256, and signatures
--- RSASSA-PKCS1-v1_5 with SHA-256 (RFC 7935, section 2; RFC 8017, section 8.2.2).
+-- What a check of octets answers on these grounds: `Ok` exactly if they begin with an object for
+-- which every check holds and whose certificate passes by `Says`; else the fault of the first check
+-- that fails (`Checks`, `IsExact`). Digests are SHA-256, and signatures RSASSA-PKCS1-v1_5 with
+-- SHA-256 (RFC 7935, section 2; RFC 8017, section 8.2.2).
 pub record ChecksAsking {X : Type 0} (kind : ObjectKind X) (form : List ℕ → X → Type 0) (mode : Mode)
     (g : Grounds) (Says : KeptCertificate → Result (Unit {0}) ValidationError → Type 0)
     (octets : List ℕ) (result : Result (Validated × X) CheckError) : Type 0 where
   pub first : Checks kind form mode sha256 is_rsa_signature g.issuer g.moment Says octets result
   pub exact : IsExact kind form mode sha256 is_rsa_signature g.issuer g.moment Says octets result
 
--- what is said of a certificate before the lists are asked: a yes
+-- before the lists are asked, every certificate passes
 abbrev pub passes : KeptCertificate → Result (Unit {0}) ValidationError → Type 0
 passes cert said = said ≡ Ok tt
 
--- What a check of octets answers on these grounds, before the lists are asked: a yes exactly where
--- they begin with an object that is good but for them.
+-- What a check of octets answers on these grounds before the lists are asked.
 abbrev pub ChecksOn : {X : Type 0} → ObjectKind X → (List ℕ → X → Type 0) → Mode → Grounds → List ℕ
     → Result (Validated × X) CheckError → Type 0
 ChecksOn kind form mode g octets result = ChecksAsking kind form mode g passes octets result
 
 -- what is found on these grounds: the content of a good object whose certificate no list revokes, or
--- why there is none, unless memory ran out
+-- the cause of a refusal; want of memory is always possible
 abbrev pub IsFoundOn : {X : Type 0} → ObjectKind X → (List ℕ → X → Type 0) → Mode → Grounds → List ℕ
     → Result X Refusal → Type 0
 IsFoundOn kind form mode g octets (Ok x) = (cert : Validated)
@@ -54,14 +53,14 @@ IsFoundOn {X} kind form mode g octets (Err (Revoked place)) = (cert : Validated)
 IsFoundOn kind form mode g octets (Err Memory) = Unit {0}
 IsFoundOn kind form mode g octets (Err other) = ⊥
 
--- A question has grounds, and this is found on them.
+-- The question has grounds, and this is found on them.
 pub record IsFoundIn {X : Type 0} (kind : ObjectKind X) (form : List ℕ → X → Type 0) (q : Question)
     (octets : List ℕ) (result : Result X Refusal) : Type 0 where
   pub grounds : Grounds
   pub are : AreGroundsOf q grounds
   pub found : IsFoundOn kind form (mode_of q.manner.strict) grounds octets result
 
--- what is found in answer to a question: that it has no grounds, or what is found on them
+-- the answer to a question: why it has no grounds, or what is found on them
 abbrev pub IsFound : {X : Type 0} → ObjectKind X → (List ℕ → X → Type 0) → Question → List ℕ
     → Result X Refusal → Type 0
 IsFound kind form q octets result =
@@ -70,7 +69,7 @@ IsFound kind form q octets result =
 
 -- ---- the headline
 
--- a yes is said of a certificate exactly where no list of these grounds revokes it
+-- a certificate passes exactly if no list of these grounds revokes it
 abbrev pub SaysOf : Grounds → KeptCertificate → Result (Unit {0}) ValidationError → Type 0
 SaysOf g k (Ok done) = IsUnrevoked g.lists.items g.issuer.cert.certificate k.certificate
 SaysOf g k (Err fault) = ¬ IsUnrevoked g.lists.items g.issuer.cert.certificate k.certificate
@@ -82,8 +81,8 @@ abbrev pub IsGoodOn : {X : Type 0} → ObjectKind X → (List ℕ → X → Type
 IsGoodOn kind form mode g octets = BeginsWithGood kind form mode sha256 is_rsa_signature g.issuer
     g.moment (SaysOf g) octets
 
--- What is found of this kind on grounds is a content exactly where the octets begin with a good
--- object: where it is a refusal that is not for want of memory, they begin with none.
+-- On any grounds a content is found only where the octets begin with a good object of this kind; and
+-- where they are refused, and not for want of memory, they begin with none.
 pub record IsDecidedOn {X : Type 0} (kind : ObjectKind X) (form : List ℕ → X → Type 0) : Type 0 where
   pub yes : (mode : Mode) (g : Grounds) (octets : List ℕ) (x : X)
       → IsFoundOn kind form mode g octets (Ok x) → IsGoodOn kind form mode g octets
@@ -114,8 +113,9 @@ IsNotGoodFor kind form q octets =
     ((refusal : Refusal) × HasNoGrounds q refusal × (is_memory refusal ≡ false))
     ⊎ IsNotGoodOn kind form q octets
 
--- The same of what is found in answer to a question; and octets that are not good so are good on no
--- grounds of the question.
+-- To any question a content is found only where the octets begin with a good object of this kind; they
+-- are refused, unless for want of memory, only where they do not; and never do both hold, whichever
+-- grounds of the question are taken.
 pub record IsDecided {X : Type 0} (kind : ObjectKind X) (form : List ℕ → X → Type 0) : Type 0 where
   pub on : IsDecidedOn kind form
   pub yes : (q : Question) (octets : List ℕ) (x : X) → IsFound kind form q octets (Ok x)

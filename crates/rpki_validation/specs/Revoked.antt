@@ -10,7 +10,7 @@ use Rattle.rpki_rsa.specs.Signature.{is_rsa_signature}
 abbrev pub IsList : List ℕ → RevocationList → Type 0
 IsList octets list = (rest : List ℕ) × IsOnlyFront (CrlForm Der) octets list rest
 
--- The same of a list that is kept, which was read in DER.
+-- The octets begin with the list that is kept, which was read in DER.
 abbrev pub IsKeptList : List ℕ → KeptCrl → Type 0
 IsKeptList octets k = IsList octets k.list × (k.mode ≡ Der)
 

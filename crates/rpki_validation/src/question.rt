@@ -3,18 +3,18 @@
 use bytes::Bytes;
 use rpki_basics::{ManifestRule, ProviderLimit, Time};
 
-/// Under which certificates and lists, when and how is checked.
+/// What an object is checked against: certificates, revocation lists, a moment and a manner.
 #[derive(Drop)]
 pub struct Question<'a> {
-    /// The certificate of a trust anchor.
+    /// The trust anchor's certificate.
     pub anchor: &'a Bytes,
-    /// A locator, whose key that certificate has to have.
+    /// A trust anchor locator: that certificate has to have its key.
     pub locator: Option<&'a Bytes>,
-    /// The certificates of CAs, each under the one before.
+    /// The certificates of the CAs below the trust anchor, each issued by the one before.
     pub chain: &'a [Bytes],
-    /// Revocation lists.
+    /// Revocation lists, in any order. One that no CA of the chain signed has no effect.
     pub lists: &'a [Bytes],
-    /// At which moment.
+    /// The moment at which all have to be valid.
     pub moment: Time,
     /// How objects are read.
     pub manner: Manner,

@@ -15,7 +15,8 @@ outlasts None (Some n) = true
 outlasts (Some m) None = false
 outlasts (Some m) (Some n) = nat_lt (stamp n) (stamp m)
 
--- Of all rows of its payload this one holds longest, and of those that hold as long it is the first.
+-- No row of the same payload holds longer than this one, and of those that hold as long it is the
+-- first.
 pub record IsLongest {K R : Type 0} (key : R → K) (until : R → Option Moment) (said : List R)
     (r : R) : Type 0 where
   pub before : List R
@@ -24,9 +25,9 @@ pub record IsLongest {K R : Type 0} (key : R → K) (until : R → Option Moment
   pub first : All (λ q. key q ≡ key r → outlasts (until r) (until q) ≡ true) before
   pub longest : All (λ q. key q ≡ key r → outlasts (until q) (until r) ≡ false) after
 
--- The rows are some of those that are said (`Says`), in the strict order of their payloads. Each
--- payload that is said has a row, and none that is said of it holds longer; of those that hold as
--- long, its row is the first in the list of all that is said.
+-- The rows are in the strict order of their payloads, and each is said (`Says`). Each payload that is
+-- said has a row, and no row of it that is said holds longer; of those that hold as long, it is the
+-- first in the list of all that is said.
 pub record AreJoined {K R : Type 0} (cmp : K → K → Ordering) (key : R → K)
     (until : R → Option Moment) (Says : R → Type 0) (said rows : List R) : Type 0 where
   pub ascending : IsStrictlySortedBy cmp (map key rows)
@@ -38,12 +39,13 @@ pub record AreJoined {K R : Type 0} (cmp : K → K → Ordering) (key : R → K)
 -- ---- in a map
 
 module _ {K R : Type 0} (cmp : K → K → Ordering) (key : R → K) (until : R → Option Moment) where
-  -- of what is kept, if anything is, and a row the one that holds longer, and the first of equals
+  -- the one that holds longer of the row that is kept, if there is one, and this row; of equals the
+  -- one that is kept
   abbrev pub longer : Option R → R → R
   longer None r = r
   longer (Some q) r = if outlasts (until r) (until q) then r else q
 
-  -- at the payload of this row the one is kept that holds longer, and nothing else has changed
+  -- at the payload of this row the map keeps the row that holds longer, and nothing else has changed
   pub record KeepsLongest (r : R) (old new : BTreeMap K R) : Type 0 where
     pub here : get cmp new (key r) ≡ Some (longer (get cmp old (key r)) r)
     pub others : (k : K) → is_eq (cmp (key r) k) ≡ false → get cmp new k ≡ get cmp old k

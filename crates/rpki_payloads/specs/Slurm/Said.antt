@@ -58,8 +58,8 @@ ItemsSay Says (item d ds) (x ∷ xs) = Says d x × ItemsSay Says ds xs
 abbrev pub ListSays : {X : Type 0} → (Data → X → Type 0) → Data → List X → Type 0
 ListSays Says d xs = (ds : Items) × (as_array d ≡ Some ds) × ItemsSay Says ds xs
 
--- The same of a member that may be left out where there are none. That version 2 may leave out its
--- lists of ASPAs is this project's own rule.
+-- The member is a list whose items say these, or it is left out, and there are none. That version 2
+-- may leave out its lists of ASPAs is this project's own rule.
 abbrev pub ListMaySay : {X : Type 0} → (Data → X → Type 0) → Option Data → List X → Type 0
 ListMaySay Says None xs = xs ≡ []
 ListMaySay Says (Some d) xs = ListSays Says d xs

@@ -22,14 +22,15 @@ pub record AreOctets (told : Told) (names : Names) (files : List (List ℕ)) : T
   pub count : length files ≡ length names
   pub each : AreReadTo told names (length names) files
 
--- The same of the file of a name that may be given.
+-- These are the octets that the store tells of the file of this name, or any where it tells nothing;
+-- there are none where no name is given.
 abbrev pub IsOctetsIf : Told → Option (List ℕ) → Option (List ℕ) → Type 0
 IsOctetsIf told None None = Unit {0}
 IsOctetsIf told None (Some octets) = ⊥
 IsOctetsIf told (Some name) None = ⊥
 IsOctetsIf told (Some name) (Some octets) = IsRead (told name) (Ok octets)
 
--- The same of the files that a question names.
+-- The inputs are the octets that the store tells of the files that a question names.
 pub record AreTold (told : Told) (under : IssuerFiles) (inputs : Inputs) : Type 0 where
   pub anchor : IsRead (told under.ta.now) (Ok inputs.anchor)
   pub chain : AreOctets told (texts under.cas.items) inputs.chain.items

@@ -57,8 +57,8 @@ AreExceptions told names exceptions = (files : List (List ℕ)) × AreOctets tol
 abbrev pub IsNoReport : List ℕ → ℕ → Type 0
 IsNoReport text status = IsStopped status × (text ≡ [])
 
--- The same under these locators, after the exceptions in the files of the request, unless the run is
--- stopped.
+-- This is the report of payloads under these locators, after the exceptions in the files of the
+-- request, or there is none.
 abbrev pub IsReportAfter : Told → Finds → PayloadsRequest → Moment → List NamedLocator → List ℕ → ℕ
     → Type 0
 IsReportAfter told finds r moment locators text status = IsNoReport text status
