@@ -281,7 +281,7 @@ module _ (s : Setting) (place : Place) (said : List Finding) (children : List Pl
     | inr none ↦ absurd (only-refused said (t.1) _ (none.0.0) x h (none.0.2) c)
   ]
 
-  place-has : PlaceTells s place said children → (child : Place) → Contains children child
+  pub place-has : PlaceTells s place said children → (child : Place) → Contains children child
       → PublishesCa s place child
   place-has (inl t) child c = absurd (none-there children child (t.2) c)
   place-has (inr t) child c = elim (t.4) [

@@ -9,13 +9,14 @@ ghost use Rattle.rpki_tal.specs.Uri.{https_first};
 ghost use Rattle.rpki_relying_party.specs.Anchors.{IsAnchorOf, HasAnchor, HaveBegun};
 ghost use Rattle.rpki_relying_party.specs.Anchors.{candidates};
 ghost use Rattle.rpki_relying_party.specs.Costs.{PlaceCosts, PlaceExceeds};
-ghost use Rattle.rpki_relying_party.specs.Found.{SaysLike};
+ghost use Rattle.rpki_relying_party.specs.Found.{HasAsLong, SaysLike};
 ghost use Rattle.rpki_relying_party.specs.Passes.{setting};
 ghost use Rattle.rpki_relying_party.specs.Paths.{IsSaid, Leads, TellsOne};
 ghost use Rattle.rpki_relying_party.specs.Place.{AreAlike, key_of};
 ghost use Rattle.rpki_relying_party.specs.Published.{IsPayloadBelow, PublishesPayload, PublishesCa};
 ghost use Rattle.rpki_relying_party.specs.Published.{FindsPublished, at_moment};
-ghost use Rattle.rpki_relying_party.specs.Runs.{IsRunUnder};
+ghost use Rattle.rpki_relying_party.specs.Runs.{IsLeftRefusal, IsRefusalFor, IsRunUnder, KeepsAll};
+ghost use Rattle.rpki_relying_party.specs.Runs.{left_under};
 ghost use Rattle.rpki_relying_party.specs.Same.{FindsOne};
 ghost use Rattle.rpki_relying_party.specs.Tells.{PlaceTells};
 ghost use Rattle.rpki_relying_party.specs.Walk.{Left};
@@ -88,6 +89,22 @@ pub fn publications_are_found<R: Repository, C: Crypto>(_pass: &Pass<'_, R, C>)
         → (tal : Locator) (limit : ℕ) (old new : Found) (unread : List (Left Place))
         → IsRunUnder (setting R.finds C.digest_of C.is_signed _pass.now) tal limit old new unread
         → FindsPublished (setting R.finds C.digest_of C.is_signed _pass.now) tal new unread }
+{}
+
+/// A run refuses each place that it leaves unread. Some CA listed the place, and `refuse_unread` puts
+/// a refusal to what was found, with the URI of that CA's manifest, which says how many of its places
+/// were left unread for the same.
+///
+/// So with `publications_are_found` a payload that is published is found, unless some place on its
+/// chain has the key of one that is refused.
+pub fn unread_places_are_refused<R: Repository, C: Crypto>(_pass: &Pass<'_, R, C>)
+    ensures { (tal : Locator) (limit : ℕ) (old new : Found) (unread : List (Left Place))
+        → IsRunUnder (setting R.finds C.digest_of C.is_signed _pass.now) tal limit old new unread
+        → (after : Found)
+        → KeepsAll (IsLeftRefusal unread) new after
+        → (u : Left Place)
+        → Contains unread u
+        → (x : Finding) × IsRefusalFor (left_under unread) u x × HasAsLong after x }
 {}
 
 /// Over such a copy, to read places that are alike is one number of work for all of them: each
