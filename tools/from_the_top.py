@@ -99,11 +99,13 @@ PROMISES = [
         "What a run finds is said below a trust anchor of its locator; a payload is said there by a "
         "good object in a good publication point to which a chain of valid, unrevoked certificates "
         "leads. Over a copy that finds one thing for each URI, each payload that is published so is "
-        "found, but for those below a place that was left unread. Until a payload expires, it is "
-        "published so. What is printed is the report of the runs under the locators, after local exceptions.",
+        "found, but for those below a place that was left unread, and each such place is refused. "
+        "Until a payload expires, it is published so. What is printed is the report of the runs under "
+        "the locators, after local exceptions.",
         [
             ("rpki_relying_party", "laws", "payloads_are_said", ["ensures"]),
             ("rpki_relying_party", "laws", "publications_are_found", ["ensures"]),
+            ("rpki_relying_party", "laws", "unread_places_are_refused", ["ensures"]),
             ("rpki_relying_party", "laws", "payloads_hold", ["ensures"]),
             ("rpki_relying_party", "locator", "run_under", ["sound", "complete", "refused", "reads"]),
             ("rpki_payloads", "report", "report_payloads", ["ensures"]),
