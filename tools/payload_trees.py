@@ -13,6 +13,7 @@ import copy
 import hashlib
 import os
 import pathlib
+import stat
 import sys
 
 sys.dont_write_bytecode = True
@@ -589,6 +590,16 @@ def link_to(path):
     return lambda where, _: os.symlink(path, where)
 
 
+def unix_socket(where, _):
+    os.mknod(where, stat.S_IFSOCK | 0o600)
+
+
+def sparse(where, _):
+    """A file of 1 GB that takes no room."""
+    with open(where, "wb") as it:
+        it.truncate(1 << 30)
+
+
 def anchor(what, make_it, cause=NO_FILE):
     """The certificate of the trust anchor is something else on the disk."""
     def change(t):
@@ -600,6 +611,7 @@ def anchor(what, make_it, cause=NO_FILE):
 
 DEVICES = [
     device("a pipe", fifo), device("a pipe", fifo, file="a.crl"), device("a pipe", fifo, file="a.mft"),
+    device("a socket", unix_socket), device("a socket", unix_socket, file="a.mft"),
     device("a link to /dev/zero", link_to("/dev/zero")),
     device("a link to /dev/zero", link_to("/dev/zero"), file="a.mft"),
     device("a folder", lambda where, _: os.makedirs(where)),
@@ -720,6 +732,46 @@ def one_point(t, count, revoked=5_000):
     for at in range(count):
         certify(t, h, x, make.Claim([PLACE], numbers(at)), f"x{at}.cer")
     return h
+
+
+def point_of_a_megabyte(t, count):
+    """The same with a list of 1 MB."""
+    one_point(t, count, 45_000)
+
+
+def parents_that_trim(t, count):
+    """A CA that claims what two others have together. Each of them certifies it so many times, with one
+    number of each fewer, and lets it have its own: each set of numbers is a place of its own."""
+    own = numbers(2 * count)
+    h, halves = hostile(t, 2 * count), (own[:count], own[count:])
+    p, q = (t.ca(name, [PLACE], half, h) for name, half in zip("pq", halves))
+    x = Ca("x", make.Claim([PLACE], own), p)
+    t.cas.append(x)
+    x.add_roa("o.roa", 65100, [PLACE])
+    customers = [half[0][0] for half in halves]
+    for name, customer in zip("pq", customers):
+        x.add_aspa(f"{name}.asa", customer, [65010])
+    for above in (p, q):
+        above.add_ca(x, trims=True)
+        for at, lost in enumerate(zip(*halves)):
+            fewer = [it for it in own if it not in lost]
+            certify(t, above, x, make.Claim([PLACE], fewer), f"x{at}.cer", trims=True)
+    t.says([*PROVIDERS, *(aspa(it, 65010) for it in customers), *ORIGINS, *C, *B, origin(65100, PLACE)],
+           *((f"{x.folder}{it}.asa", WIDE_AS, x.manifest) for it in "pq"))
+
+
+def no_files(t, count):
+    """A pipe, a link to /dev/zero and a sparse file of 1 GB, each listed by a CA with so many manifests. A
+    run that opened the first would wait, and one that read another would take all memory."""
+    h, refused = hostile(t), []
+    for at, (make_it, cause) in enumerate(((fifo, NO_FILE), (link_to("/dev/zero"), NO_FILE), (sparse, LARGE_FILE))):
+        x = t.ca(f"h{at}", [PLACE], (), h, key=shared(at))
+        uri = x.add_roa("o.roa", 65100, [PLACE])
+        manifests = certify_again(t, h, x, count)
+        t.lose(uri)
+        t.devices[path_of(uri)] = make_it
+        refused += ((it, f"o.roa {cause}", h.manifest) for it in manifests)
+    t.says(A + C + B, *refused)
 
 
 def one_key(t, count):
@@ -1035,6 +1087,9 @@ HOSTILE = [
     ("two keys that certify each other", two_keys, 8, 3),
     ("a ROA of 2,000 prefixes that is listed many times", one_roa, 1_000, 10),
     ("a point with a long list that is certified many times", one_point, 300, 8),
+    ("a point with a list of 1 MB that is certified many times", point_of_a_megabyte, 300, 3),
+    ("two parents that certify a child many times, each with its own numbers", parents_that_trim, 100, 3),
+    ("a pipe, a link to /dev/zero and a sparse file of 1 GB, each listed many times", no_files, 100, 3),
     ("many children with one key", one_key, 1_000, 30),
     ("many children with one key, and a manifest of zeros", one_key_of_zeros, 300, 8),
     ("a certificate for the key of a victim", shadow, 1, 1),
