@@ -6,10 +6,10 @@ use super::objects::{ASPA, CHECKLIST, MANIFEST, NUMBER, Object, ROA, made};
 use crate::shared::{Row, are_so, is_said};
 use bytes::Bytes;
 use rpki_basics::standin::{StandIn, StandInSigner};
-use rpki_basics::{FixedClock, ManifestRule, ProviderLimit, Time};
+use rpki_basics::{FixedClock, ManifestRule, ProviderLimit, Serial, Time};
 use rpki_certs::{Cert, ResourceCert};
 use rpki_der::{Constructed, Mode};
-use rpki_faults::ValidationError;
+use rpki_faults::{ValidationError, VerificationError};
 use rpki_files::{Manifest, ResourceSignedChecklist, ValidateManifest};
 use rpki_routes::{AsProviderAttestation, Aspa, RouteOriginAttestation};
 use rpki_signed::check;
@@ -23,6 +23,9 @@ enum Call {
     Check,
     /// The same at each proper length, strict and relaxed.
     Cut,
+    /// The same, strict and relaxed, where so many of the last octets are gone, and this octet
+    /// follows, so often.
+    Ending(usize, u8, usize),
     Validate,
     ValidateAt,
     ValidateDetached,
@@ -45,14 +48,19 @@ enum Call {
 }
 
 /// An object, the call of its signer that fails, the year of its signature, and the call that is
-/// made on it with its answer. What is wrong with a content comes before the signer's fault.
+/// made on it with its answer. What is wrong with a content comes before the signer's fault. The
+/// year is the serial number of the certificate too, by which the caller refuses.
 type Made = (Object, u64, u16, Call, &'static str);
 
 const TWO: Object = Object::Roa(Some(24));
 
 const THREE: Object = Object::Aspa(&[64498, 64497, 64499]);
 
-static SIGNED: [Made; 61] = [
+const REFUSED: &str = "refused by the caller";
+
+const UNSIGNED: &str = "signature is not valid";
+
+static SIGNED: [Made; 85] = [
     (Object::Number, 0, 2030, Call::Check, "yes"),
     (Object::Number, 0, 2031, Call::Check, "yes"),
     (
@@ -136,16 +144,52 @@ static SIGNED: [Made; 61] = [
     (Object::Manifest, 0, 2030, Call::Cut, "yes"),
     (TWO, 0, 2030, Call::Cut, "yes"),
     (THREE, 0, 2030, Call::Cut, "yes"),
-    (Object::Number, 0, 2030, Call::Validate, "yes"),
+    (Object::Number, 0, 2029, Call::Check, REFUSED),
+    (Object::Checklist, 0, 2029, Call::Check, REFUSED),
+    (Object::Manifest, 0, 2029, Call::Check, REFUSED),
+    (TWO, 0, 2029, Call::Check, REFUSED),
+    (THREE, 0, 2029, Call::Check, REFUSED),
+    (Object::Number, 0, 2029, Call::Ending(32, 0, 32), UNSIGNED),
+    (
+        Object::Checklist,
+        0,
+        2029,
+        Call::Ending(32, 0, 32),
+        UNSIGNED,
+    ),
+    (Object::Manifest, 0, 2029, Call::Ending(32, 0, 32), UNSIGNED),
+    (TWO, 0, 2029, Call::Ending(32, 0, 32), UNSIGNED),
+    (THREE, 0, 2029, Call::Ending(32, 0, 32), UNSIGNED),
+    (Object::Number, 0, 2030, Call::Ending(0, 0, 1), "yes"),
+    (Object::Number, 0, 2030, Call::Ending(0, 0x30, 300), "yes"),
+    (Object::Checklist, 0, 2030, Call::Ending(0, 0, 1), "yes"),
+    (
+        Object::Checklist,
+        0,
+        2030,
+        Call::Ending(0, 0x30, 300),
+        "yes",
+    ),
+    (Object::Manifest, 0, 2030, Call::Ending(0, 0, 1), "yes"),
+    (Object::Manifest, 0, 2030, Call::Ending(0, 0x30, 300), "yes"),
+    (TWO, 0, 2030, Call::Ending(0, 0, 1), "yes"),
+    (TWO, 0, 2030, Call::Ending(0, 0x30, 300), "yes"),
+    (THREE, 0, 2030, Call::Ending(0, 0, 1), "yes"),
+    (THREE, 0, 2030, Call::Ending(0, 0x30, 300), "yes"),
+    (Object::Number, 0, 2029, Call::Validate, "yes"),
     (Object::Number, 0, 2030, Call::ValidateDetached, "yes"),
     (Object::Number, 0, 2030, Call::ValidateDetachedAt, "yes"),
-    (Object::Number, 0, 2030, Call::Process, "yes"),
+    (Object::Number, 0, 2029, Call::ValidateAt, "yes"),
     (Object::Number, 0, 2030, Call::Taken, "yes"),
     (Object::Checklist, 0, 2030, Call::ValidateDetached, "yes"),
     (Object::Checklist, 0, 2030, Call::ProcessSigned, "yes"),
     (TWO, 0, 2030, Call::ProcessSigned, "yes"),
     (THREE, 0, 2030, Call::ProcessSigned, "yes"),
+    (Object::Checklist, 0, 2029, Call::ProcessSigned, REFUSED),
+    (TWO, 0, 2029, Call::ProcessSigned, REFUSED),
+    (THREE, 0, 2029, Call::ProcessSigned, REFUSED),
     (TWO, 0, 2030, Call::CheckType, "yes"),
+    (TWO, 0, 2029, Call::CheckType, REFUSED),
     (Object::Manifest, 0, 2030, Call::Manifest, "yes"),
     (Object::Manifest, 0, 2030, Call::ManifestAt, "yes"),
     (THREE, 0, 2030, Call::Aspa, "yes"),
@@ -164,8 +208,11 @@ static SIGNED: [Made; 61] = [
     (Object::Number, 0, 2030, Call::Number, "yes"),
 ];
 
-/// The caller knows of no certificate that was revoked.
-fn pass(_cert: &Cert) -> Result<(), ValidationError> {
+/// The caller refuses the certificate with the number 2029.
+fn ask(cert: &Cert) -> Result<(), ValidationError> {
+    if cert.serial_number() == Serial::from(2029) {
+        return Err(ValidationError::Verification(VerificationError::Caller));
+    }
     Ok(())
 }
 
@@ -183,31 +230,31 @@ fn is_checked(
     match object {
         Object::Number => match SignedObject::decode(alloc, octets, strict) {
             Err(error) => is_said(alloc, Err::<(), _>(error), want),
-            Ok(object) => is_answered(alloc, &Call::ValidateAt, object, issuer, now, want),
+            Ok(object) => is_answered(alloc, &Call::Process, object, issuer, now, want),
         },
         Object::Checklist => is_said(
             alloc,
-            check::rsc(alloc, octets, strict, issuer, crypto, now, pass),
+            check::rsc(alloc, octets, strict, issuer, crypto, now, ask),
             want,
         ),
         Object::Manifest => {
             let rule = ManifestRule::Registered;
             is_said(
                 alloc,
-                check::manifest(alloc, octets, strict, issuer, crypto, now, pass, rule),
+                check::manifest(alloc, octets, strict, issuer, crypto, now, ask, rule),
                 want,
             )
         }
         Object::Roa(_) => is_said(
             alloc,
-            check::roa(alloc, octets, strict, issuer, crypto, now, pass),
+            check::roa(alloc, octets, strict, issuer, crypto, now, ask),
             want,
         ),
         Object::Aspa(_) => {
             let limit = ProviderLimit::Narrow;
             is_said(
                 alloc,
-                check::aspa(alloc, octets, strict, issuer, crypto, now, pass, limit),
+                check::aspa(alloc, octets, strict, issuer, crypto, now, ask, limit),
                 want,
             )
         }
@@ -233,6 +280,29 @@ fn is_cut(
     Ok(true)
 }
 
+/// Whether the check of its kind answers so, strict and relaxed, to an object that ends so.
+fn is_ending(
+    alloc: Global,
+    object: &Object,
+    octets: Bytes,
+    (gone, octet, count): (usize, u8, usize),
+    issuer: &ResourceCert,
+    now: Time,
+    want: &str,
+) -> Result<bool, Fail> {
+    let left = octets.len().saturating_sub(gone);
+    for strict in [true, false] {
+        let mut all = Vec::from_slice(alloc, octets.as_slice())?;
+        all.truncate(left);
+        all.resize(left.saturating_add(count), octet)?;
+        let all = Bytes::from_vec(all)?;
+        if !is_checked(alloc, object, all, strict, issuer, now, want)? {
+            return Ok(false);
+        }
+    }
+    Ok(true)
+}
+
 /// Whether a call that validates an object of any type answers so.
 fn is_answered(
     alloc: Global,
@@ -247,7 +317,7 @@ fn is_answered(
     match call {
         Call::Process => is_said(
             alloc,
-            object.process(alloc, issuer, true, crypto, &clock, pass),
+            object.process(alloc, issuer, true, crypto, &clock, ask),
             want,
         ),
         Call::Validate => is_said(
@@ -320,7 +390,7 @@ fn is_processed<T: Content>(
     let clock = FixedClock(now);
     is_said(
         alloc,
-        object.process(alloc, issuer, true, &StandIn, &clock, pass),
+        object.process(alloc, issuer, true, &StandIn, &clock, ask),
         want,
     )
 }
@@ -346,6 +416,30 @@ fn is_signed(
     }
 }
 
+/// Whether the check for which the type is a parameter answers so to the octets of a ROA.
+fn is_of_type(
+    alloc: Global,
+    octets: Bytes,
+    issuer: &ResourceCert,
+    now: Time,
+    want: &str,
+) -> Result<bool, Fail> {
+    is_said(
+        alloc,
+        check::object::<RouteOriginAttestation, _, _>(
+            alloc,
+            octets,
+            true,
+            issuer,
+            &StandIn,
+            now,
+            ask,
+            (),
+        ),
+        want,
+    )
+}
+
 /// Whether a call answers so to the octets of an object.
 fn is_right(
     alloc: Global,
@@ -359,22 +453,13 @@ fn is_right(
     match call {
         Call::Check => is_checked(alloc, object, octets, true, issuer, now, want),
         Call::Cut => is_cut(alloc, object, octets, issuer, now),
+        Call::Ending(gone, octet, count) => {
+            let end = (*gone, *octet, *count);
+            is_ending(alloc, object, octets, end, issuer, now, want)
+        }
         Call::Manifest | Call::ManifestAt => is_manifest(alloc, call, octets, issuer, now, want),
         Call::ProcessSigned => is_signed(alloc, object, octets, issuer, now, want),
-        Call::CheckType => is_said(
-            alloc,
-            check::object::<RouteOriginAttestation, _, _>(
-                alloc,
-                octets,
-                true,
-                issuer,
-                &StandIn,
-                now,
-                pass,
-                (),
-            ),
-            want,
-        ),
+        Call::CheckType => is_of_type(alloc, octets, issuer, now, want),
         Call::Aspa => is_said(
             alloc,
             Aspa::decode(alloc, octets, true, ProviderLimit::Wide),

@@ -69,12 +69,12 @@ pub fn are_claimed(alloc: Global) -> Result<bool, Fail> {
 }
 
 /// A copy of a builder that claims the AS numbers of the issuer, and signs at the beginning of this
-/// year.
+/// year, which is its serial number too.
 pub fn builder(alloc: Global, at: u16) -> Result<SignedObjectBuilder, Fail>
     ensures { IfOk result (λ b. b.v4 ≡ Missing) }
 {
     let mut builder = SignedObjectBuilder::new(
-        Serial::from(2),
+        Serial::from(u64::from(at)),
         Validity::new(year(2029)?, year(2031)?),
         rsync(alloc, b"rsync://host/module/ca.crl")?,
         rsync(alloc, b"rsync://host/ca.cer")?,
