@@ -122,6 +122,15 @@ def of_point(*lines):
     return row
 
 
+def of_point_above(*lines):
+    """The same, of a ROA of the CA `c`, which is below `a`."""
+    def row(at, t):
+        uri = f"{t.c.folder}o.roa"
+        said = [it.format(manifest=t.a.manifest) for it in lines]
+        return uri, 1, [*anchor(at), *up(uri, t.c, t.a), *down(t.top, t.a), *said, no(uri)]
+    return row
+
+
 def unlisted(t):
     t.put(f"{t.a.folder}u.roa", t.a.files["o.roa"])
 
@@ -305,6 +314,8 @@ ROWS = [
      of_point(BROKEN_POINT, f"entry {{folder}}a.crl: {GONE}")),
     ("a stale list", sets(list_times=times(SIGNED, PAST)),
      of_point(BROKEN_POINT, f"list of {{manifest}}: revocation list {STALE}")),
+    ("a stale list of the CA above its issuer", sets(list_times=times(SIGNED, PAST)), of_point_above(
+        BROKEN_POINT, f"list of {{manifest}}: revocation list {STALE}")),
     ("a missing manifest", lambda t: t.lose(t.a.manifest),
      of_point(f"manifest {{manifest}}: manifest {GONE}")),
     ("a stale manifest", sets(manifest_times=times(SIGNED, PAST)),

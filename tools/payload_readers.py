@@ -1,6 +1,6 @@
 #!/usr/bin/env python3
 """Loads what `rpki_verify payloads` prints in each format by a reader of it, and compares the origins
-that it has.
+that it has, and the ASPAs.
 
     tools/payload_readers.py [PROGRAM]
 
@@ -8,12 +8,13 @@ PROGRAM is crates/rpki_verify/out/rpki_verify unless it is given. A tree of tool
 asked for at the moment of the clock, under two locators of one key, with and without local exceptions
 (tools/local_exceptions.py).
 
-    lines, csv, json, rpki-client     read by Python
+    lines, csv, json, rpki-client     read by Python; lines with --long too
     json, rpki-client                 served by StayRTR, and asked for by `rtrclient` of rtr-tools
     bird                              `bird -p`, and a running BIRD 2 that is asked by `birdc`
     openbgpd                          `bgpd -n -v`, which prints what it read
 
-OpenBGPD before 7.8 knows no `aspa-set`: there, what stands from it on is cut off before.
+ASPAs are compared where Python reads lines or JSON, and where `bgpd` reads them. OpenBGPD before 7.8 knows
+no `aspa-set`: there, what stands from it on is cut off before, and its ASPAs are LEFT OUT.
 
 Prints a line for each reader that has other origins or refuses a text, and for each that is not there
 (LEFT OUT), and at last how many passed and failed. The status is 0 where all passed. Needs `openssl` 3,
@@ -56,6 +57,29 @@ def ran(*words):
 def origin(asn, prefix, longest):
     """An origin, where a maximum length that is left out is that of the prefix."""
     return int(str(asn).removeprefix("AS")), prefix, int(longest or prefix.split("/")[1])
+
+
+def pair(customer, provider):
+    """A customer and one of its providers."""
+    return tuple(int(str(it).removeprefix("AS")) for it in (customer, provider))
+
+
+def aspas_of_lines(octets):
+    """The pairs of plain lines, with or without `--long`."""
+    said = re.findall(r"^aspa (AS\d+)((?: AS\d+)+)(?: (?:until|asserted)\b.*)?$", octets.decode(), re.M)
+    return sorted(pair(customer, it) for customer, several in said for it in several.split())
+
+
+def aspas_of_json(octets):
+    """Those of Python's json, in either form."""
+    return sorted(pair(it.get("customer", it.get("customer_asid")), provider)
+                  for it in json.loads(octets)["aspas"] for provider in it["providers"])
+
+
+def aspas_of_openbgpd(octets):
+    """Those that `bgpd -n -v` prints again."""
+    said = re.findall(r"^\tcustomer-as (\d+)[^{]*\{([^}]*)\}", printed_by_openbgpd(octets.decode()), re.M)
+    return sorted(pair(customer, it) for customer, several in said for it in re.findall(r"\d+", several))
 
 
 def of_lines(octets):
@@ -140,44 +164,55 @@ def asked_of_router(host, port):
 def of_openbgpd(octets):
     """Those that `bgpd -n -v` prints again."""
     text = octets.decode()
-    if re.match(r"OpenBGPD 7\.[0-7]\b", version_of_openbgpd()):
+    if not knows_aspas():
         text = text.split("aspa-set")[0]
-    with tempfile.NamedTemporaryFile("w", suffix=".conf") as it:
-        it.write(OPENBGPD + text)
-        it.flush()
-        said = ran("bgpd", "-n", "-v", "-f", it.name)
+    said = printed_by_openbgpd(text)
     rows = re.findall(r"^\t(\S+/\d+)(?: maxlen (\d+))? source-as (\d+)", said, re.M)
     return sorted(origin(asn, prefix, longest) for prefix, longest, asn in rows)
 
 
-def version_of_openbgpd():
-    """Its version, as it says it."""
+def printed_by_openbgpd(text):
+    """What `bgpd -n -v` prints of a configuration with this."""
+    with tempfile.NamedTemporaryFile("w", suffix=".conf") as it:
+        it.write(OPENBGPD + text)
+        it.flush()
+        return ran("bgpd", "-n", "-v", "-f", it.name)
+
+
+def knows_aspas():
+    """Whether this OpenBGPD is of release 7.8 or later, as it says it."""
     done = subprocess.run(["bgpd", "-V"], capture_output=True, text=True, check=False)
-    return done.stdout + done.stderr
+    return not re.match(r"OpenBGPD 7\.[0-7]\b", done.stdout + done.stderr)
 
 
 # The readers of each format, and the programs that they need.
 READERS = {
-    "lines": [(of_lines,)], "csv": [(of_csv,)], "json": [(of_json,), (of_router, "stayrtr", "rtrclient")],
+    "lines": [(of_lines,)], "--long": [(of_lines,)], "csv": [(of_csv,)], "json": [(of_json,), (of_router, "stayrtr", "rtrclient")],
     "rpki-client": [(of_json,), (of_router, "stayrtr", "rtrclient")], "bird": [(of_bird, "bird", "birdc")],
     "openbgpd": [(of_openbgpd, "bgpd")]}
+ASPA_READERS = {
+    "lines": [(aspas_of_lines,)], "--long": [(aspas_of_lines,)], "json": [(aspas_of_json,)], "rpki-client": [(aspas_of_json,)],
+    "openbgpd": [(aspas_of_openbgpd, "bgpd")]}
 
 
-def judged(printed, wanted):
-    """Of each reader of these texts, `{format: octets}`, what is wrong where it has other origins, or
+def judged(printed, wanted, readers=READERS):
+    """Of each reader of these texts, `{format: octets}`, what is wrong where it has other payloads, or
     one twice; else nothing."""
     for name, octets in printed.items():
-        for reader, *needed in READERS[name]:
+        for reader, *needed in readers.get(name, ()):
             lacking = [it for it in needed if not shutil.which(it)]
             if lacking:
                 print(f"{name}: LEFT OUT, as there is no {lacking[0]}")
+                continue
+            if reader is aspas_of_openbgpd and not knows_aspas():
+                print(f"{name}: LEFT OUT the ASPAs, which OpenBGPD knows since 7.8")
                 continue
             try:
                 got = reader(octets)
             except (ValueError, KeyError) as error:
                 yield f"{name}: {reader.__name__}: refused: {error}"
                 continue
-            yield "" if got == wanted else f"{name}: {reader.__name__}: other origins: {got} for {wanted}"
+            yield "" if got == wanted else f"{name}: {reader.__name__}: other payloads: {got} for {wanted}"
 
 
 def all_of_them(program):
@@ -198,11 +233,19 @@ def all_of_them(program):
             path.write_bytes(octets)
         origins = [(number, prefix, most or int(prefix.split("/")[1])) for kind, number, prefix, most, _ in
                    (it for it in tree.found["one"] if it[0] == "origin")]
+        pairs = [(customer, it) for kind, customer, several, *_ in tree.found["one"] if kind == "aspa" for it in several]
         for slurm in None, "exceptions.json":
-            wanted = sorted(local_exceptions.after(origins, (), text)[0]) if slurm else sorted(origins)
-            printed = {it: subprocess.run([program, *words("payloads", "copy", "one.tal", "again.tal", format=it, slurm=slurm)], cwd=room,
-                                          env=os.environ | ROOM, stdout=subprocess.PIPE, check=False).stdout for it in READERS}
-            yield from judged(printed, wanted)
+            wanted = [*map(sorted, local_exceptions.after(origins, pairs, *[text] * bool(slurm)))]
+            printed = {it: said_in(program, room, it, slurm) for it in READERS}
+            yield from judged(printed, wanted[0])
+            yield from judged(printed, wanted[1], ASPA_READERS)
+
+
+def said_in(program, room, form, slurm):
+    """What the program prints in a format, or with an option."""
+    asked = {"options": [form]} if form.startswith("-") else {"format": form}
+    return subprocess.run([program, *words("payloads", "copy", "one.tal", "again.tal", slurm=slurm, **asked)], cwd=room,
+                          env=os.environ | ROOM, stdout=subprocess.PIPE, check=False).stdout
 
 
 def main(given):

@@ -111,7 +111,7 @@ fn read_object<S: Store, Y: System>(
 }
 
 /// That the folder of this name can't be read.
-fn no_folder(alloc: Global, folder: &str, reason: Reason) -> Result<Report, AllocError>
+pub fn no_folder(alloc: Global, folder: &str, reason: Reason) -> Result<Report, AllocError>
     ensures { IfOk result (λ r. (r.status ≡ 4) × (string_bytes r.out ≡ [])) }
 {
     if reason != Reason::NotFound {

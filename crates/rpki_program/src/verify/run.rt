@@ -13,7 +13,7 @@ ghost use Rattle.rpki_program.specs.Verify.Run.{reaching};
 use crate::verify::check::check;
 use crate::verify::copies::Watched;
 use crate::verify::explain::explain;
-use crate::verify::files::files;
+use crate::verify::files::{files, no_folder};
 use crate::verify::payloads::payloads;
 use crate::verify::report::{FAILED, Report, complain, say, write_no_memory};
 use crate::verify::request::{
@@ -26,7 +26,7 @@ use crate::verify::usage::{VERSION, WrongWords, help, table};
 use crate::verify::verdicts::{rta_verdicts, verdicts};
 use crate::verify::words::parse;
 use rpki_basics::Time;
-use rpki_cli::{Arguments, Store, WordsError, texts_of, words_of};
+use rpki_cli::{Arguments, Store, StoreError, WordsError, texts_of, words_of};
 use rpki_der::Sink;
 use rpki_relying_party::MAX_FILE;
 use rpki_rsa::Rsa;
@@ -190,8 +190,51 @@ fn rta_at<S: Store>(
     }
 }
 
-/// Lists payloads at the moment of the request.
+/// Lists payloads at the moment of the request. Where a locator has no run, and the copy can't be
+/// read as a folder, this is said first.
 fn payloads_at<S: Store, Y: System>(
+    alloc: Global,
+    request: &PayloadsRequest<'_>,
+    clock: Option<Time>,
+    store: &mut S,
+    system: &Y,
+) -> Result<Report, AllocError>
+    ensures { IfOk result (λ r. IsTimed clock request.now.at
+        (λ now. IsPayloadsReport (S.told store.old) (finds_for (Y.finds system.now) request.now)
+        request.now now) (string_bytes r.out) r.status) }
+{
+    let report = listed_at(alloc, request, clock, store, system)?;
+    let Report {
+        out,
+        mut err,
+        status,
+    } = report;
+    if status == 1 {
+        err = after_copy(alloc, request.copy, err, system)?;
+    }
+    Ok(Report { out, err, status })
+}
+
+/// What standard error has, after that the copy can't be read as a folder, where it can't.
+fn after_copy<Y: System>(
+    alloc: Global,
+    copy: &str,
+    err: String,
+    system: &Y,
+) -> Result<String, AllocError> {
+    match system.names(alloc, copy) {
+        Err(StoreError::Memory) => Err(AllocError),
+        Err(StoreError::Unreadable(reason)) => {
+            let Report { err: mut text, .. } = no_folder(alloc, copy, reason)?;
+            text.push_str(&err)?;
+            Ok(text)
+        }
+        Ok(_) => Ok(err),
+    }
+}
+
+/// Lists payloads at the moment of the request.
+fn listed_at<S: Store, Y: System>(
     alloc: Global,
     request: &PayloadsRequest<'_>,
     clock: Option<Time>,

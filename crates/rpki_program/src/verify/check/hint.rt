@@ -6,6 +6,7 @@ use rpki_certs::{Cert, IssuerError, ResourceCert};
 use rpki_der::DecodeError;
 use rpki_faults::{Family, ValidationError, VerificationError};
 use rpki_resources::{Addr, AddressFamily, AsBlock, Block, Claim, IpBlock, IpResources, Number};
+use rpki_rsa::Rsa;
 use rpki_signed::check::CheckError;
 use rpki_sigobj::SignedObject;
 use rpki_validation::grounds::{Grounds, grounds_of};
@@ -54,7 +55,7 @@ pub fn of_object(
         Refusal::Check(CheckError::Validation(ValidationError::Verification(error))) => {
             match SignedObject::decode(alloc, octets.clone()?, manner.strict) {
                 Ok(object) => {
-                    let hint = under(alloc, issuer, object.cert(), error);
+                    let hint = of_signer(alloc, issuer, object.cert(), error);
                     drop(object);
                     hint
                 }
@@ -126,6 +127,29 @@ fn unread(alloc: Global, error: DecodeError) -> Result<String, AllocError> {
     match error {
         DecodeError::Memory => Err(AllocError),
         DecodeError::Malformed | DecodeError::Content(_) => Ok(String::new(alloc)),
+    }
+}
+
+/// What is said of an object that is not good under an issuer for this, of whose signer this is the
+/// certificate.
+fn of_signer(
+    alloc: Global,
+    issuer: &Issuer<'_>,
+    cert: &Cert,
+    error: &VerificationError,
+) -> Result<String, AllocError> {
+    match error {
+        VerificationError::BadSignature => not_signed(alloc, issuer, cert),
+        _ => under(alloc, issuer, cert, error),
+    }
+}
+
+/// That it is the certificate that its issuer did not sign, if it did not.
+fn not_signed(alloc: Global, issuer: &Issuer<'_>, cert: &Cert) -> Result<String, AllocError> {
+    let file = issuer.file;
+    match cert.verify_signature(issuer.cert.cert(), &Rsa) {
+        Ok(()) => Ok(String::new(alloc)),
+        Err(_) => format!(in alloc; ": the key in {file} did not sign its certificate"),
     }
 }
 

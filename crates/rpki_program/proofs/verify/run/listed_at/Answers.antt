@@ -1,6 +1,6 @@
 use Rattle.std.proofs.Common.{◌∙◌, sym}
 use Rattle.rpki_program.proofs.Paying.{timed-pays}
-use Rattle.rpki_program.proofs.verify.run.payloads_at.Goals as goal
+use Rattle.rpki_program.proofs.verify.run.listed_at.Goals as goal
 
 pub returns-in-Some : goal.returns-in-Some
 returns-in-Some g c =
