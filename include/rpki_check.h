@@ -26,8 +26,7 @@ extern "C" {
 #define RPKI_CHECK_VERSION 0x00010000
 uint32_t rpki_check_version(void);
 
-/* What a call answers: 0, or the number of a refusal, which stays as it is. Beside each is its
- * text. */
+/* What a call answers: 0, or the number of a refusal, which stays as it is, beside its text. */
 enum rpki_status {
 	RPKI_GOOD = 0,          /* the octets begin with a good object */
 	RPKI_NO_MEMORY = 1,     /* memory ran out: nothing is said of the octets; the text is
@@ -137,9 +136,10 @@ typedef struct rpki_question {
 /* Checks an object of a kind. The answer is RPKI_GOOD exactly if the certificates make an issuer
  * (RFC 6487, section 7.2), the octets begin with an object of the kind that is good under it at
  * the moment, and no list revokes a certificate of the chain or that of the object; unless memory
- * runs out. Else it is the number of the first check that fails. Octets after the object are
- * ignored. The times of lists are not looked at. Of an attestation, the issuer is the one CA under
- * which it may be granted, and lists count for those of its certificates that this CA issued.
+ * runs out. Else it is the number of the first check that fails. Octets after the object and the
+ * times of lists are ignored. Of an attestation, the issuer is the one CA under which it may be
+ * granted, lists count for its certificates that this CA issued, and one whose certificates repeat
+ * an identifier may be refused although it is good.
  *
  * The text is the lines that `rpki_verify check` prints below `yes`, or why the object is not
  * good. It is UTF-8, and not terminated by a 0.

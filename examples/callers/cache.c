@@ -1,9 +1,9 @@
 /* The ROAs of a cache that rpki-client has filled, each under the chain that leads to it:
  *   rpki-client -n -d CACHE -t TAL -f $(find CACHE -name '*.roa') | cache CACHE TA.cer [SECONDS]
- * A certificate names its manifest; the manifest that is good under the chain lists the
- * certificates below it, its revocation list and its ROAs. The moment is now, or so many seconds
- * after 1970. A line for each ROA on which the two differ, and at last how many there were and what
- * they took. The status is 1 if one differs. */
+ * A certificate names its manifest, and the manifest that is good under the chain lists what is
+ * below it: certificates, a revocation list and ROAs. The moment is now, or so many seconds after
+ * 1970. A line for each ROA on which the two differ, or that is good there and not reached here; at
+ * last how many there were and what they took. The status is 1 if one differs. */
 #define _GNU_SOURCE
 #include "rpki_check.h"
 
@@ -13,13 +13,14 @@
 #include <time.h>
 
 enum { DEPTH = 32 };
-struct verdict { char path[4096]; int is_good; struct verdict *next; };
+struct verdict { char path[4096]; int is_good, is_asked; struct verdict *next; };
 
 static struct verdict *printed;
 static const char *cache;
 static rpki_octets chain[DEPTH], lists[DEPTH];
 static rpki_question question = { .chain = chain, .lists = lists };
 static double asked, good, differ, seconds;
+static void visit(void);
 
 static void *made(void *memory)
 {
@@ -57,12 +58,11 @@ static char *manifest_of(rpki_octets cert)
 {
 	const uint8_t *at = cert.at, *end = cert.at + cert.length;
 
-	while (at != NULL && (at = memmem(at, (size_t)(end - at), "rsync://", 8)) != NULL) {
+	for (; at != NULL && (at = memmem(at, (size_t)(end - at), "rsync://", 8)); at += 8) {
 		size_t length = at > cert.at ? at[-1] : 0;
 		if (length > 12 && length < 128 && length <= (size_t)(end - at)
 		    && memcmp(at + length - 4, ".mft", 4) == 0)
 			return joined(cache, at + 8, length - 8);
-		at += 8;
 	}
 	return NULL;
 }
@@ -79,13 +79,11 @@ static void ask(const char *path)
 	asked++, good += status == RPKI_GOOD;
 	while (theirs != NULL && strcmp(theirs->path, path) != 0)
 		theirs = theirs->next;
-	if (theirs != NULL && theirs->is_good != (status == RPKI_GOOD))
+	if (theirs != NULL && (theirs->is_asked = 1) && theirs->is_good != (status == RPKI_GOOD))
 		differ++, printf("%s: %u here, %s by rpki-client\n", path, status,
 		    theirs->is_good ? "good" : "not good");
 	free((void *)roa.at);
 }
-
-static void visit(void);
 
 /* Takes a file of a manifest: a list first, and then, in a second pass, what it may revoke. */
 static void take(const char *file, const char *type, int pass)
@@ -107,14 +105,13 @@ static void visit(void)
 {
 	size_t last = question.chain_length, count = 0, length = 0;
 	char *path = manifest_of(last > 0 ? chain[last - 1] : question.anchor);
-	rpki_octets manifest = octets_of(path != NULL ? path : "");
+	rpki_octets mft = octets_of(path != NULL ? path : "");
 
-	rpki_check_manifest(&question, manifest.at, manifest.length, NULL, 0, &count, NULL, 0,
-	    &length);
+	rpki_check_manifest(&question, mft.at, mft.length, NULL, 0, &count, NULL, 0, &length);
 	rpki_file *files = made(calloc(count + 1, sizeof *files));
 	uint8_t *octets = made(malloc(length + 1));
-	uint32_t status = rpki_check_manifest(&question, manifest.at, manifest.length, files, count,
-	    &count, octets, length, &length);
+	uint32_t status = rpki_check_manifest(&question, mft.at, mft.length, files, count, &count,
+	    octets, length, &length);
 	if (status != RPKI_GOOD)
 		printf("%s: %u\n", path != NULL ? path : "no manifest is named", status);
 	else
@@ -126,7 +123,7 @@ static void visit(void)
 			take(file, file + strlen(file) - 4, i >= count);
 		free(file);
 	}
-	free(files), free(octets), free(path), free((void *)manifest.at);
+	free(files), free(octets), free(path), free((void *)mft.at);
 }
 
 int main(int argc, char **argv)
@@ -144,6 +141,9 @@ int main(int argc, char **argv)
 		} else if (printed != NULL && sscanf(line, "Validation: %4095s", path) == 1)
 			printed->is_good = strcmp(path, "OK") == 0;
 	visit();
+	for (const struct verdict *it = printed; it != NULL; it = it->next)
+		if (it->is_good && !it->is_asked)
+			differ++, printf("%s: not reached here, good by rpki-client\n", it->path);
 	printf("%.0f ROAs, %.0f good, %.0f differ; %.2f ms each\n", asked, good, differ,
 	    asked > 0 ? seconds / asked * 1e3 : 0);
 	return differ != 0;

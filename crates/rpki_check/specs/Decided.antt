@@ -95,6 +95,12 @@ ObjectsTell = (q : Question) (objects : List Object) (old new : List ℕ) (count
     → (statuses : List ℕ) × IsInRoom statuses old new count
     × AllZip (λ o status. TellsAsked q o.kind o.octets.now status) objects statuses
 
+-- If a call about many objects answers 0, it leaves their statuses, each of which tells.
+abbrev pub TellsEach : Question → List Object → List ℕ → List ℕ → ℕ → ℕ → Type 0
+TellsEach q objects old new count answer =
+    answer ≡ 0 → (statuses : List ℕ) × IsInRoom statuses old new count
+    × AllZip (λ o status. TellsAsked q o.kind o.octets.now status) objects statuses
+
 -- The status of a call for rows tells.
 abbrev pub RowsTell : {X R : Type 0} → ObjectKind X → (Question → List ℕ → X → Type 0)
     → (X → List R) → Type 0

@@ -11,6 +11,7 @@ ghost use Rattle.rpki_routes.specs.Aspa.Form.{AspaForm};
 ghost use Rattle.rpki_routes.specs.Roa.Checks.{roa_kind};
 ghost use Rattle.rpki_routes.specs.Roa.Form.{RoaForm};
 ghost use Rattle.rpki_check.specs.Calls.{IsObjectCall, IsShowCall};
+ghost use Rattle.rpki_check.specs.Decided.{TellsAsked, TellsEach, TellsGood};
 ghost use Rattle.rpki_check.specs.Edition.{IsEditionCall};
 ghost use Rattle.rpki_check.specs.Files.{IsFilesCall, checked_files, listed_files};
 ghost use Rattle.rpki_check.specs.Grounds.{manner_in};
@@ -78,7 +79,8 @@ pub extern "C" fn rpki_check_object(
     room: &mut [u8],
     len: &mut usize,
 ) -> u32
-    ensures { IsObjectCall question.now kind object.now room.old room.new len.new result }
+    ensures call { IsObjectCall question.now kind object.now room.old room.new len.new result }
+    ensures tells { TellsAsked question.now kind object.now result }
 {
     report_asked(alloc, question, kind, object, room, len)
 }
@@ -108,7 +110,8 @@ pub extern "C" fn rpki_check_objects(
     room: &mut [u32],
     count: &mut usize,
 ) -> u32
-    ensures { IsManyCall question.now objects.now room.old room.new count.new result }
+    ensures call { IsManyCall question.now objects.now room.old room.new count.new result }
+    ensures tells { TellsEach question.now objects.now room.old room.new count.new result }
 {
     judge(alloc, question, objects, room, count)
 }
@@ -122,8 +125,9 @@ pub extern "C" fn rpki_check_roa(
     room: &mut [Payload],
     count: &mut usize,
 ) -> u32
-    ensures { IsRowsCall roa_kind RoaForm payloads question.now object.now room.old room.new
+    ensures call { IsRowsCall roa_kind RoaForm payloads question.now object.now room.old room.new
         count.new result }
+    ensures tells { TellsGood roa_kind RoaForm question.now object.now result }
 {
     rows_in::<RouteOriginAttestation>(alloc, question, object, room, count)
 }
@@ -139,9 +143,11 @@ pub extern "C" fn rpki_check_manifest(
     octets: &mut [u8],
     len: &mut usize,
 ) -> u32
-    ensures { IsFilesCall manifest_kind (ManifestForm (manner_in question.now).names Der)
+    ensures call { IsFilesCall manifest_kind (ManifestForm (manner_in question.now).names Der)
         listed_files question.now object.now room.old room.new count.new octets.old octets.new
         len.new result }
+    ensures tells { TellsGood manifest_kind (ManifestForm (manner_in question.now).names Der)
+        question.now object.now result }
 {
     files_in::<ManifestContent>(alloc, question, object, room, count, octets, len)
 }
@@ -156,8 +162,10 @@ pub extern "C" fn rpki_check_edition(
     room: &mut [u8],
     len: &mut usize,
 ) -> u32
-    ensures { IsEditionCall question.now object.now edition.old edition.new room.old room.new
+    ensures call { IsEditionCall question.now object.now edition.old edition.new room.old room.new
         len.new result }
+    ensures tells { TellsGood manifest_kind (ManifestForm (manner_in question.now).names Der)
+        question.now object.now result }
 {
     edition_in(alloc, question, object, edition, room, len)
 }
@@ -173,8 +181,9 @@ pub extern "C" fn rpki_check_checklist(
     octets: &mut [u8],
     len: &mut usize,
 ) -> u32
-    ensures { IsFilesCall checklist_kind (ChecklistForm Der) checked_files question.now object.now
-        room.old room.new count.new octets.old octets.new len.new result }
+    ensures call { IsFilesCall checklist_kind (ChecklistForm Der) checked_files question.now
+        object.now room.old room.new count.new octets.old octets.new len.new result }
+    ensures tells { TellsGood checklist_kind (ChecklistForm Der) question.now object.now result }
 {
     files_in::<ResourceSignedChecklist>(alloc, question, object, room, count, octets, len)
 }
@@ -188,8 +197,10 @@ pub extern "C" fn rpki_check_aspa(
     room: &mut [u32],
     count: &mut usize,
 ) -> u32
-    ensures { IsRowsCall aspa_kind (AspaForm (manner_in question.now).limit) numbers question.now
-        object.now room.old room.new count.new result }
+    ensures call { IsRowsCall aspa_kind (AspaForm (manner_in question.now).limit) numbers
+        question.now object.now room.old room.new count.new result }
+    ensures tells { TellsGood aspa_kind (AspaForm (manner_in question.now).limit) question.now
+        object.now result }
 {
     rows_in::<AsProviderAttestation>(alloc, question, object, room, count)
 }

@@ -163,7 +163,7 @@ module _ (now : Moment) (octets : List ℕ) where
       next-one v w (h, u, c) (g, x, d) =
           one-under (in_der h.cert) issuer v w h.holds.1 (again v w h g) c d
 
-      next-not : (v : Validated) (fault : CaFault) → IsNextCa lists now issuer octets (Ok v)
+      pub next-not : (v : Validated) (fault : CaFault) → IsNextCa lists now issuer octets (Ok v)
           → IsNextCa lists now issuer octets (Err fault) → is_memory_at_ca fault ≡ true
       next-not v (ca.Error fault) (h, u, c) g = issued-not v fault h g
       next-not v (ca.Revoked place) (h, u, c) (w, g, r) =

@@ -8,6 +8,8 @@ use Rattle.rpki_routes.specs.Aspa.Form.{AspaForm}
 use Rattle.rpki_routes.specs.Roa.Checks.{roa_kind}
 use Rattle.rpki_routes.specs.Roa.Form.{RoaForm}
 use Rattle.rpki_validation.proofs.Decided.{decided, rta-decided}
+use Rattle.rpki_validation.proofs.Refused.{list-not, locator-not}
+use Rattle.rpki_validation.proofs.Single.{next-not}
 use Rattle.rpki_validation.proofs.laws.what_is_found_decides.Goals as goal
 
 pub returns-clause-roas : goal.returns-clause-roas
@@ -24,3 +26,13 @@ returns-clause-checklists c = decided checklist_kind (ChecklistForm Der)
 
 pub returns-clause-attestations : goal.returns-clause-attestations
 returns-clause-attestations c = rta-decided
+
+pub returns-clause-certificates : goal.returns-clause-certificates
+returns-clause-certificates c =
+    λ g octets v fault. next-not g.moment octets g.issuer g.lists.items v fault
+
+pub returns-clause-lists : goal.returns-clause-lists
+returns-clause-lists c = list-not
+
+pub returns-clause-locators : goal.returns-clause-locators
+returns-clause-locators c = locator-not

@@ -1,0 +1,12 @@
+use Rattle.rpki_der.specs.declared.mode.Mode.TheVariants.{Der}
+use Rattle.rpki_files.specs.Checklist.{ChecklistForm}
+use Rattle.rpki_files.specs.Checklist.Checks.{checklist_kind}
+use Rattle.rpki_check.specs.Files.{checked_files}
+use Rattle.rpki_check.proofs.Answered.{files-tell}
+use Rattle.rpki_check.proofs.exports.rpki_check_checklist.Goals as goal
+
+pub returns-clause-tells : goal.returns-clause-tells
+returns-clause-tells c =
+    files-tell checklist_kind (λ q. ChecklistForm Der) checked_files c.args.question.now
+    c.args.object.now c.args.room.now c.files_in.new.room c.files_in.new.count c.args.octets.now
+    c.files_in.new.place c.files_in.new.len c.files_in.result c.files_in.ensures
