@@ -195,7 +195,7 @@ def signed_data(octets):
 
 def text(of):
     """A text, as the code of a test has it."""
-    escaped = of.replace("\\", "\\\\").replace('"', '\\"').replace("\n", "\\n")
+    escaped = of.replace("\\", "\\\\").replace('"', '\\"').replace("\n", "\\n").replace("\t", "\\t")
     return f'"{escaped}"'
 
 
