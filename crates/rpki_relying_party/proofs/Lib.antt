@@ -40,6 +40,7 @@ pub mod Holding
 pub mod Ending
 pub mod Running
 pub mod Leaving
+pub mod Refusing
 pub mod Slashes
 pub mod Plain
 pub mod Endings

@@ -1,5 +1,5 @@
 use Rattle.rpki_relying_party.specs.Passes.{setting}
-use Rattle.rpki_relying_party.proofs.Unread.{unread-refused}
+use Rattle.rpki_relying_party.proofs.Refusing.{unread-refused}
 use Rattle.rpki_relying_party.proofs.laws.unread_places_are_refused.Goals as goal
 
 pub returns : goal.returns
