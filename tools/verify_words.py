@@ -16,6 +16,11 @@ def words(command, *operands, chain=(), options=(), **values):
     return [os.fsdecode(it) for it in (*given, *operands)]
 
 
+def not_issued(key, uri, file, other):
+    """That a CA did not issue something: the key of its issuer, the URI of that, and the file and key of the CA."""
+    return f"not issued by this CA: its issuer has the key {key} ({uri}), and {file} has {other}: give its CA before it, with --ca"
+
+
 def malformed(octets, cause=""):
     """What is said of these octets, and the rule that they break, if one is told."""
     if cause:

@@ -8,7 +8,7 @@ sys.dont_write_bytecode = True
 sys.path.append(str(pathlib.Path(__file__).resolve().parent.parent.parent / "tools"))
 import example_files as examples  # noqa: E402
 import publication  # noqa: E402
-from verify_words import words as words_of  # noqa: E402
+from verify_words import not_issued, words as words_of  # noqa: E402
 
 HEAD = '''//! Files of examples/ that are checked under revocation lists.
 
@@ -22,7 +22,11 @@ FILES = {"anchor": "rpki.example.net/anchor.cer", "authority": "rpki.example.net
          "origin.roa": "rpki.example.net/authority/origin.roa", "holding.rta": "holding.rta"}
 CHAIN = "anchor", "authority"
 KEYLESS = "keyless: malformed: subjectKeyIdentifier is missing"
-NOT_ISSUED = "refused: not issued by this CA\n"
+# The keys of the trust anchor and of the CA, with the URIs of their certificates, and that of another trust anchor.
+TOP = "1A3A434D3CB238F39188C4ED212421A717BB7C97", "rsync://rpki.example.net/anchor.cer"
+CA = "C78637259551E49913A293A978985D33FBECF9C1", "rsync://rpki.example.net/anchor/authority.cer"
+OTHER = "34EB4F79DBFC177F2263A2F42E69DB6262D2C8BD"
+NOT_ISSUED = f"refused: {not_issued(*CA, 'anchor', TOP[0])}\n"
 
 
 def files():
@@ -73,7 +77,7 @@ ROWS = [
     refused("anchor: key is not that of second.tal", "anchor2.crl", tal="second.tal", chain=["anchor", "origin.roa"]),
     refused(KEYLESS, chain=["keyless", "origin.roa"]),
     refused("anchor: missing AKI", chain=["anchor", "anchor", "authority"]),
-    refused("authority: not issued by this CA", chain=["second", "authority"]),
+    refused(f"authority: {not_issued(*TOP, 'second', OTHER)}", chain=["second", "authority"]),
     # an attestation
     ("holding.rta", HOLDING, "", {"crl": ["holder.crl", "roa.crl", "authority.crl"]}),
     ("holding.rta", "refused: revoked by all.crl\n", "", {"crl": ["holder.crl", "all.crl", "customer.crl"]}),

@@ -11,7 +11,7 @@ sys.path.append(str(TOP / "tools"))
 import example_files as examples  # noqa: E402
 from payload_formats import WRITERS, compact  # noqa: E402
 from payload_trees import EXAMPLES as FOUND, EXAMPLES_REFUSED  # noqa: E402
-from verify_words import words as words_of  # noqa: E402
+from verify_words import not_issued, words as words_of  # noqa: E402
 
 HEAD = '''//! The answers of the program with signatures, over streams that fail at each of their calls.
 
@@ -89,7 +89,10 @@ uri rsync://rpki.example.net/anchor.cer
 key 1A3A434D3CB238F39188C4ED212421A717BB7C97
 """
 MALFORMED, ISSUER_MALFORMED = "malformed\n", "issuer refused: malformed\n"
-NOT_ISSUED, BROKEN = "refused: not issued by this CA\n", "refused: signature is not valid\n"
+NOT_ISSUED = "refused: " + not_issued(
+    "C78637259551E49913A293A978985D33FBECF9C1", "rsync://rpki.example.net/anchor/authority.cer", "anchor",
+    "1A3A434D3CB238F39188C4ED212421A717BB7C97") + "\n"
+BROKEN = "refused: signature is not valid\n"
 NOT_YET = "issuer refused: anchor: certificate is not yet valid\n"
 REVOKED, NO_KIND = "refused: revoked by revoking\n", "skipped: no kind that is checked\n"
 UNREAD = "cannot be read: no such file\n"
@@ -220,6 +223,7 @@ PARTS = "rpki.example.net", "ta"
 REFUSED = "".join(f"refused {uri}: {cause} (under {under}, anchor)\n" for uri, cause, under in EXAMPLES_REFUSED)
 SECOND = "refused second: manifest is not in the copy\n"
 ABSENT = "refused absent: its certificate is not in the copy\n"
+LOOKED = "absent: looked for copy/a.example.com/1/1 and copy/ta/absent/1\n"
 
 
 def payloads(*tals, **values):
@@ -234,9 +238,9 @@ def printed(options, said=FOUND):
 PAYLOADS = [
     *((payloads("anchor.tal", options=options), 0, printed(options), REFUSED) for options in WRITERS if "--long" not in options),
     (payloads("second.tal"), 1, "", SECOND),
-    (payloads("absent.tal"), 1, "", ABSENT),
-    (payloads("absent.tal", format="json"), 1, printed(("--format", "json"), []), ABSENT),
-    (payloads("anchor.tal", "absent.tal", "second.tal"), 1, printed(()), ABSENT + SECOND + REFUSED),
+    (payloads("absent.tal"), 1, "", ABSENT + LOOKED),
+    (payloads("absent.tal", format="json"), 1, printed(("--format", "json"), []), ABSENT + LOOKED),
+    (payloads("anchor.tal", "absent.tal", "second.tal"), 1, printed(()), ABSENT + SECOND + REFUSED + LOOKED),
     (payloads("anchor.tal", "bad.tal"), 2, "", "bad locator bad.tal\n"),
     (payloads("anchor.tal", "none"), *NONE),
     (payloads("anchor.tal", "large"), *LARGE),
