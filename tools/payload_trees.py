@@ -359,7 +359,7 @@ SHAPES = [
     ("COPY/", lambda t: vars(t).update(copy="copy/")),
     ("./none/../COPY", lambda t: vars(t).update(copy="./none/../copy")),
     ("COPY from the root on", lambda t: vars(t).update(copy=None)),
-    ("no COPY", lambda t: vars(t.fails(MISSING)).update(copy="none/copy")),
+    ("no COPY", lambda t: vars(t.fails(MISSING)).update(copy="none/copy", error="no such folder: none/copy\n")),
     ("what several objects say", joined),
     ("an overclaiming child under RFC 8360", trimmed),
     ("what says nothing", silent),
