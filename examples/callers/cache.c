@@ -1,5 +1,5 @@
 /* The ROAs of a cache that rpki-client has filled, each under the chain that leads to it:
- *   find CACHE -name '*.roa' | xargs -n 5 rpki-client -n -d CACHE -t TAL -f | cache CACHE TA.cer [SECONDS]
+ *   find CACHE -name '*.roa' | xargs -n 5 rpki-client -nd CACHE -t TAL -f | cache CACHE TA.cer [SECONDS]
  * A certificate names its manifest, and the manifest that is good under the chain lists what is
  * below it: certificates, a revocation list and ROAs. The moment is now, or so many seconds after
  * 1970. A line for each ROA on which the two differ, or that is good there and not reached here; at
