@@ -1,4 +1,4 @@
-"""Local exceptions (RFC 8416) over origins and providers: for tools/verify_runs.
+"""Local exceptions (RFC 8416) over origins and providers: for verify.py and readers.py.
 
 `after` is an implementation of its own: what is left of origins `(AS, prefix, maximum length)` and of
 providers `(customer, provider)`, and what is added. REFUSED has texts that are refused whole, each

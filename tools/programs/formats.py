@@ -1,6 +1,6 @@
-"""What `rpki_verify payloads` prints in each format: for tools/payloads_trees and tools/verify_runs.
+"""What `rpki_verify payloads` prints in each format: for trees.py and verify.py.
 
-`found` has pairs of the name of a locator and the payloads below it, as tools/payload_trees.py has
+`found` has pairs of the name of a locator and the payloads below it, as tree_rows.py has
 them: each payload is one row, whatever locators it is below. `refused` has by name what is refused
 there: a URI, the cause, and the manifest of the CA.
 """
