@@ -111,7 +111,8 @@ def said(*words):
 # ---- in a bash
 
 class Shell:
-    """An interactive bash in a folder, where each program is a function that prints its words, and rpki_verify its table too."""
+    """An interactive bash in a folder, where each program is a function that prints its words, and rpki_verify its
+    table too."""
 
     def __init__(self, folder, table):
         self.pid, self.terminal = pty.fork()
@@ -175,7 +176,8 @@ def calls_in(text):
 def synopsis_of(program):
     """The calls of each command, and those without one, as SYNOPSIS: what is typed in bold, the rest in italics."""
     named = [it.split("\t")[0] for it in said(program, "--options").splitlines() if it.count("\t") == 3]
-    calls = [call for it in named for call in calls_in(said(program, it, "--help"))] + calls_in(said(program, "--help"))[1:]
+    calls = [call for it in named for call in calls_in(said(program, it, "--help"))]
+    calls += calls_in(said(program, "--help"))[1:]
     made = []
     for call in calls:
         text = call.partition(" ")[2]

@@ -1,4 +1,5 @@
-"""Objects of examples/, as they are and with other contents: for the runs of both programs, tools/rows and tools/fuzz."""
+"""Objects of examples/, as they are and with other contents: for the runs of both programs, tools/rows and
+tools/fuzz."""
 import hashlib
 import ipaddress
 import os
@@ -62,8 +63,8 @@ def manifest_shown(*names):
 
 
 def with_content(octets, content, certs=lambda certs: certs):
-    """An object with another content, and with what this makes of its certificates; and the digests of the messages that
-    its signers signed, each with that of what they would have to sign."""
+    """An object with another content, and with what this makes of its certificates; and the digests of the messages
+    that its signers signed, each with that of what they would have to sign."""
     kind, signed = inside(octets)
     fields = inside(contents(signed))
     content_type, old = inside(fields[2])

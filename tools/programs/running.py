@@ -75,10 +75,11 @@ def narrow():
 
 
 def starts_limited(program):
-    """Whether a program starts where its address space is limited. One that rt try built does not: it keeps much of that,
-    to test each access of memory."""
-    ends = [subprocess.run([program, "--help"], capture_output=True, preexec_fn=it).returncode for it in (None, limited(48 << 20))]
-    return ends[0] == ends[1]
+    """Whether a program starts where its address space is limited. One that rt try built does not: it keeps much of
+    that, to test each access of memory."""
+    free, bound = (subprocess.run([program, "--help"], capture_output=True, preexec_fn=it).returncode
+                   for it in (None, limited(48 << 20)))
+    return free == bound
 
 
 def compiled(source, room):
@@ -167,8 +168,8 @@ class Runs(Count):
         return f", {most} MiB at most, {(most << 20) / size:.1f} times the file"
 
     def small(self, name, size, words, *wanted, times=TIMES, given=os.devnull):
-        """A run on a file of this size that has a small stack, and memory in proportion to the file. The file that is given
-        is its standard input."""
+        """A run on a file of this size that has a small stack, and memory in proportion to the file. The file that is
+        given is its standard input."""
         before = both(narrow, limited(LEAST + times * size)) if self.is_plain else narrow
         with open(os.path.join(self.room, given), "rb") as it:
             got = self.ran(words, stdin=it, preexec_fn=before)
@@ -177,8 +178,8 @@ class Runs(Count):
         self.judge(f"{name}, {size} octets, {said(words)}{peak}", got, *wanted)
 
     def refused_in_turn(self, preload, words, wanted, *others):
-        """Runs the program once for each allocation that it makes, with that one refused (tools/refuse_growth.c): each of the
-        other answers that it may have is seen."""
+        """Runs the program once for each allocation that it makes, with that one refused (tools/refuse_growth.c): each
+        of the other answers that it may have is seen."""
         if not self.is_plain or not preload:
             return
         settings = self.env | {"LD_PRELOAD": preload}
@@ -194,7 +195,8 @@ class Runs(Count):
             seen.add(got)
             if got not in (wanted, OUT_OF_MEMORY, *others):
                 self.judge(f"allocation {at} of {count} refused, {said(words)}", got, wanted, OUT_OF_MEMORY, *others)
-        self.judge(f"{count} allocations refused in turn, {said(words)}: out of memory {refused} times", refused > 0, True)
+        name = f"{count} allocations refused in turn, {said(words)}: out of memory {refused} times"
+        self.judge(name, refused > 0, True)
         if others:
             self.judge(f"each answer is seen, {said(words)}", {*others} - seen, set())
 

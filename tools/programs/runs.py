@@ -39,8 +39,8 @@ CONTENT = bytes.fromhex("301DA003020101 02023CCA 3012 02020B62 0202205B 020300C7
 SHOWN = 0, b"aspa\ncustomer AS15562\nprovider AS2914\nprovider AS8283\nprovider AS51088\nprovider AS206238\n", b""
 # A trust anchor locator (RFC 8630, section 2.2) of a key with the bits `abc`, whose SHA-1 is that of FIPS 180-4.
 TAL = b"# made\nhttps://a.example.com/1\nrsync://a.example.com/1/1\n\nMBUwDQYJKoZIhvcNAQEBBQAD\nBABhYmM=\n"
-TAL_SHOWN = (0, b"tal\nuri https://a.example.com/1\nuri rsync://a.example.com/1/1\nkey A9993E364706816ABA3E25717850C26C9CD0D89D\n",
-             b"")
+TAL_SHOWN = (0, b"tal\nuri https://a.example.com/1\nuri rsync://a.example.com/1/1\n"
+             b"key A9993E364706816ABA3E25717850C26C9CD0D89D\n", b"")
 # The ROA of AS64496 for 192.0.2.0/24 up to /26 (RFC 9582, section 4), and a checklist of it (RFC 9323, section 4), with
 # a hash without a name.
 ROA = bytes.fromhex("301A 020300FBF0 3013 3011 04020001 300B 3009 030400C00002 02011A")
@@ -93,8 +93,8 @@ def check_words(kind, file, moment="20270101000000Z", verdicts=None, others=()):
 
 def rta_words(name, file=None, verdicts=None):
     """The words that ask whether an attestation of examples/, or that in a file, is granted."""
-    return ["rta", file or f"{EXAMPLES}/{name}", "20270101000000Z", verdicts or verdicts_of(name), f"tal={EXAMPLES}/second.tal",
-            f"ca={':'.join(made.CHAIN)}"]
+    return ["rta", file or f"{EXAMPLES}/{name}", "20270101000000Z", verdicts or verdicts_of(name),
+            f"tal={EXAMPLES}/second.tal", f"ca={':'.join(made.CHAIN)}"]
 
 
 def walk_words(*pairs, file=MANIFEST, verdicts=verdicts_of(MANIFEST), chain=made.CHAIN):
@@ -112,9 +112,9 @@ HELD = pair("origin.roa", "origin.roa")
 
 def many(count):
     """The content of AS1 with this number of providers, from AS2 on, and what is said of it."""
-    providers = range(2, count + 2)
-    octets = make.sequence(make.under(0, make.integer(1)), make.integer(1), make.sequence(*map(make.integer, providers)))
-    return octets, (0, f"aspa\ncustomer AS1\n{''.join(f'provider AS{it}{chr(10)}' for it in providers)}".encode(), b"")
+    providers, one = range(2, count + 2), make.integer(1)
+    octets = make.sequence(make.under(0, one), one, make.sequence(*map(make.integer, providers)))
+    return octets, (0, b"aspa\ncustomer AS1\n" + b"".join(b"provider AS%d\n" % it for it in providers), b"")
 
 
 class Objects(Strained):
@@ -180,7 +180,8 @@ def kinds(runs):
 
 def locators(runs):
     """Trust anchor locators."""
-    runs.lay({"windows": TAL.replace(b"\n", b"\r\n"), "begun": TAL[:TAL.index(b"BABh")], "keyless": TAL[:TAL.index(b"\n\n") + 1]})
+    runs.lay({"windows": TAL.replace(b"\n", b"\r\n"), "begun": TAL[:TAL.index(b"BABh")],
+              "keyless": TAL[:TAL.index(b"\n\n") + 1]})
     runs.tal("a locator", "locator", TAL_SHOWN)
     runs.each(([*OPTIONS, "show", "tal", "locator"], TAL_SHOWN))
     runs.tal("a locator with line ends of two octets", "windows", TAL_SHOWN)
@@ -197,16 +198,19 @@ def objects(runs):
     for kind, file, lines, signer in OBJECTS:
         wanted, yes = (0, lines + SIGNING + signer, b""), (0, b"yes\n" + lines, b"")
         other, octets, listed = "aspa" if kind == "roa" else "roa", octets_of(file), verdicts_of(file)
-        runs.each((["show", kind, file], wanted), ([*OPTIONS, "show", kind, file], wanted), (["show", other, file], MALFORMED))
+        runs.each((["show", kind, file], wanted), ([*OPTIONS, "show", kind, file], wanted),
+                  (["show", other, file], MALFORMED))
         for more in (b"\0", b"\xff" * 300):
             runs.write("object", octets + more)
             runs.each((["show", kind, "object"], wanted), (check_words(kind, "object", verdicts=listed), yes))
         runs.write("object", octets[:-1])
-        runs.each((["show", kind, "object"], MALFORMED), (check_words(kind, file), yes), (check_words(other, file), MALFORMED))
+        runs.each((["show", kind, "object"], MALFORMED), (check_words(kind, file), yes),
+                  (check_words(other, file), MALFORMED))
     causes = (BROKEN, b"signature is not valid"), (EXPIRED, b"certificate has expired"), (OVERCLAIMING, OVERCLAIMED)
     runs.each(*((check_words("roa", file), refused(cause)) for file, cause in causes))
     early = 1, b"issuer refused: certificate is not yet valid\n", b""
-    runs.each((check_words("roa", ORIGIN, "20250101000000Z"), early), (check_words("roa", ORIGIN, "20270229000000Z"), USAGE),
+    runs.each((check_words("roa", ORIGIN, "20250101000000Z"), early),
+              (check_words("roa", ORIGIN, "20270229000000Z"), USAGE),
               (check_words("roa", ORIGIN, verdicts=BROKEN), BAD_VERDICTS),
               (check_words("roa", ORIGIN, others=["none"]), unreadable("none")),
               (check_words("roa", ORIGIN, others=[BROKEN]), NO_ISSUER),
@@ -231,8 +235,8 @@ def walks(runs):
     every, other = [pair(it, it) for it in AUTHORITY_FILES], pair("origin.roa", "broken.roa")
     held = 0, b"yes\n" + b"".join(b"held %s\n" % it.encode() for it in AUTHORITY_FILES), b""
     one = 0, b"yes\nheld origin.roa\n", b""
-    runs.each((walk_words(*every), held), (walk_words(*every[::-1]), held), (walk_words(), YES), (walk_words(HELD, other), one),
-              (walk_words(other, HELD), YES), ([*OPTIONS, *walk_words(HELD)], one),
+    runs.each((walk_words(*every), held), (walk_words(*every[::-1]), held), (walk_words(), YES),
+              (walk_words(HELD, other), one), (walk_words(other, HELD), YES), ([*OPTIONS, *walk_words(HELD)], one),
               (walk_words(HELD, chain=made.CHAIN[:1]), refused(b"not issued by this CA")),
               (walk_words(HELD, file=ORIGIN), MALFORMED), (walk_words(HELD, "a=none"), unreadable("none")),
               (walk_words()[:-1], USAGE), (walk_words("origin.roa"), USAGE), (walk_words("origin.roa="), USAGE),
@@ -255,8 +259,8 @@ def streams(runs):
     none_taken("stdout", check_words("roa", OVERCLAIMING), ["show", "rta", AGREEMENT], rta_words("agreement.rta"),
                rta_words("revoked.rta"), walk_words(HELD), walk_words(chain=made.CHAIN[:1]),
                *(["content", kind, f"bare.{kind}"] for kind in bare))
-    none_taken("stderr", rta_words("agreement.rta", verdicts=AGREEMENT), walk_words(verdicts=AGREEMENT), walk_words("a=none"),
-               rta_words("agreement.rta", file="none"), ["show", "rta", "none"])
+    none_taken("stderr", rta_words("agreement.rta", verdicts=AGREEMENT), walk_words(verdicts=AGREEMENT),
+               walk_words("a=none"), rta_words("agreement.rta", file="none"), ["show", "rta", "none"])
     # Memory runs out, and standard error does not take that it did.
     if runs.is_plain:
         none_taken("stderr", ["content", "aspa", "large"], before=limited(48 << 20))
@@ -275,17 +279,20 @@ def memory(runs, preload):
     runs.lay({"manifest": manifest(b"a.cer", b"b.cer"), "bare.rta": content_in(AGREEMENT)})
     asked = [(["content", "aspa", "content"], SHOWN), (["content", "aspa", "none"], unreadable("none")),
              (["content", "aspa", "cut"], MALFORMED), (["show", "tal", "locator"], TAL_SHOWN),
-             (["show", "tal", "keyless"], MALFORMED), (["content", "roa", "roa"], ROA_SHOWN), (["content", "rsc", "rsc"], RSC_SHOWN),
+             (["show", "tal", "keyless"], MALFORMED), (["content", "roa", "roa"], ROA_SHOWN),
+             (["content", "rsc", "rsc"], RSC_SHOWN),
              (["--registered", "content", "manifest", "manifest"], manifest_shown(b"a.cer", b"b.cer"))]
     for kind, file, lines, signer in OBJECTS:
-        asked += [(["show", kind, file], (0, lines + SIGNING + signer, b"")), (check_words(kind, file), (0, b"yes\n" + lines, b""))]
+        asked += [(["show", kind, file], (0, lines + SIGNING + signer, b"")),
+                  (check_words(kind, file), (0, b"yes\n" + lines, b""))]
     asked += [(check_words("roa", OVERCLAIMING), refused(OVERCLAIMED)),
               (walk_words(HELD, "b=content"), (0, b"yes\nheld origin.roa\n", b"")),
               (rta_words("revoked.rta"), refused(b"CA certificate has been revoked"))]
     granted = runs.ran(rta_words("agreement.rta"))
     runs.judge("an attestation is granted", (granted[0], granted[1][:8], granted[2]), (0, b"yes\nrta\n", b""))
     lines = granted[1].removeprefix(b"yes\n")
-    attested = [(["content", "rta", "bare.rta"], (0, lines, b"")), (["show", "rta", AGREEMENT], (0, lines + CARRIED, b""))]
+    attested = [(["content", "rta", "bare.rta"], (0, lines, b"")),
+                (["show", "rta", AGREEMENT], (0, lines + CARRIED, b""))]
     runs.each(*attested)
     for words, wanted in [*asked, (rta_words("agreement.rta"), granted), *attested]:
         runs.refused_in_turn(preload, words, wanted)
@@ -295,8 +302,8 @@ def memory(runs, preload):
 
 
 def own_words(name, is_long=False):
-    """The words of the commands that ask for signatures by a list of them: of a ROA, a manifest, a file that a manifest may
-    have, and an attestation. Those of a long object have lists of theirs."""
+    """The words of the commands that ask for signatures by a list of them: of a ROA, a manifest, a file that a manifest
+    may have, and an attestation. Those of a long object have lists of theirs."""
     roa, mft, rta = (f"{name}.{it}" if is_long else name for it in ("roa", "mft", "rta"))
     given = {"verdicts": f"{mft}.verdicts"} if is_long else {}
     return (check_words("roa", roa, verdicts=f"{roa}.verdicts" if is_long else verdicts_of(ORIGIN)),
@@ -307,18 +314,19 @@ def own_words(name, is_long=False):
 def hostile_words(file):
     """Words of each command in which this file is none of what it is to be, each with what is said."""
     check, walk, held, rta = own_words(file)
-    asked = [(it, MALFORMED) for it in (["show", "roa", file], check, ["content", "manifest", file], ["show", "rta", file],
-                                        ["show", "tal", file], walk, rta)] + [(held, YES)]
+    shown = [["show", kind, file] for kind in ("roa", "rta", "tal")]
+    asked = [(it, MALFORMED) for it in (*shown, ["content", "manifest", file], check, walk, rta)] + [(held, YES)]
     under = check_words("roa", ORIGIN, others=[file])
-    lists = check_words("roa", ORIGIN, verdicts=file), walk_words(verdicts=file), rta_words("agreement.rta", verdicts=file)
+    lists = (check_words("roa", ORIGIN, verdicts=file), walk_words(verdicts=file),
+             rta_words("agreement.rta", verdicts=file))
     return [([*options, *words], wanted) for options in ([], OPTIONS) for words, wanted in asked] + [
         (under, NO_ISSUER), ([*under[:5], file], NO_ISSUER), ([*rta[:-1], f"ca={file}"], NO_ISSUER),
         ([*rta[:4], f"tal={file}"], MALFORMED), *((words, BAD_VERDICTS) for words in lists)]
 
 
 def long_objects(runs):
-    """ROAs of 100,000 and of 1,000,000 prefixes, a manifest of 1,000,000 files, and attestations of 3,000,000 AS numbers and of
-    many certificates, which are good but for their signatures: so says a list of verdicts."""
+    """ROAs of 100,000 and of 1,000,000 prefixes, a manifest of 1,000,000 files, and attestations of 3,000,000 AS
+    numbers and of many certificates, which are good but for their signatures: so says a list of verdicts."""
     check, walk, _, rta = own_words("long", True)
     runs.write("held", b"foobar")
     for count in (100_000, 1_000_000):
@@ -364,7 +372,8 @@ def long_files_cut(runs):
     octets, _, lines = made.long_roa(runs.cut_count)
     runs.cut_while_read("a ROA", ["show", "roa", "changing"], octets, lines + SIGNING + OBJECTS[0][3])
     listed = [b"%d.cer" % at for at in range(runs.cut_count)]
-    runs.cut_while_read("a manifest", ["content", "manifest", "changing"], manifest(*listed), manifest_shown(*listed)[1])
+    words, (_, lines, _) = ["content", "manifest", "changing"], manifest_shown(*listed)
+    runs.cut_while_read("a manifest", words, manifest(*listed), lines)
 
 
 def main(words):
@@ -377,7 +386,7 @@ def main(words):
                   "large": b"\x30" * (1 << 26)})
         os.mkdir(f"{room}/folder")
         if not runs.is_plain or not preload:
-            print(f"no refused allocations{'' if runs.is_plain else ' and no limits of memory: rt try built this program'}")
+            print(f"no refused allocations{'' if runs.is_plain else ', and no limits of memory: rt try built it'}")
         for part in (statuses, kinds, objects, walks, locators, names, streams):
             part(runs)
         runs.special_files()

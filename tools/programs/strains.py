@@ -29,7 +29,8 @@ def refused(cause):
 
 
 class Strained(running.Runs):
-    """Such runs. `words` show a file, `octets` are those of one, and `shown` and `cut` what is said of it and of a part of it."""
+    """Such runs. `words` show a file, `octets` are those of one, and `shown` and `cut` what is said of it and of a part
+    of it."""
 
     words = octets = shown = cut = None
 
@@ -71,7 +72,8 @@ class Strained(running.Runs):
         os.close(into)
         self.asks("a pipe as /dev/stdin", b"/dev/stdin", self.shown, stdin=read)
         os.close(read)
-        self.asks("a pipe as standard input, which is not read", b"none", self.unreadable(b"none"), stdin=subprocess.PIPE)
+        unread = self.unreadable(b"none")
+        self.asks("a pipe as standard input, which is not read", b"none", unread, stdin=subprocess.PIPE)
         self.fifo()
 
     def fifo(self):
@@ -87,8 +89,8 @@ class Strained(running.Runs):
         self.asks("a FIFO, opened once", b"fifo", self.shown, seconds=5)
 
     def stream_takes_nothing(self, stream, words, before=lambda: None, wanted=CUT):
-        """Runs that have something to say on a stream that is full, read-only, closed or not read, and that end so. `before`
-        is called first in each."""
+        """Runs that have something to say on a stream that is full, read-only, closed or not read, and that end so.
+        `before` is called first in each."""
         name, number = f"{stream}, {said(words)}", ("stdin", "stdout", "stderr").index(stream)
 
         def judge(what, preexec_fn=before, **settings):
@@ -136,8 +138,8 @@ class Strained(running.Runs):
             self.asks(f"a file that was cut to {size} octets", b"changing", wanted)
 
     def cut_while_read(self, what, words, octets, lines):
-        """An object that fills its file, `changing`, which is cut at a moment of a run: as soon as it begins, or later, up to
-        when a run would have ended that reads as much. All of it is shown, or nothing."""
+        """An object that fills its file, `changing`, which is cut at a moment of a run: as soon as it begins, or later,
+        up to when a run would have ended that reads as much. All of it is shown, or nothing."""
         self.write("changing", octets[:-1])
         before = time.monotonic()
         self.judge(f"{what} without its last octet", self.ran(words), self.cut)
@@ -159,8 +161,8 @@ class Strained(running.Runs):
         return got
 
     def hostile(self, asked):
-        """Large files named `hostile`, under a small stack and with memory in proportion to the file, each asked for by these
-        words, with what is said."""
+        """Large files named `hostile`, under a small stack and with memory in proportion to the file, each asked for by
+        these words, with what is said."""
         files = (("zeros", bytes(LARGE)), ("sequences in sequences", b"\x30\x80" * (LARGE // 2)),
                  ("pieces in pieces", IN_PIECES + b"\x24\x80" * (LARGE // 2)),
                  ("pieces", IN_PIECES + b"\x24\x80" + b"\x04\x01\x30" * (LARGE // 3)))

@@ -1187,8 +1187,8 @@ LARGE = [
     (f"a manifest of {FILES_LISTED} files", of_files),
     (f"a list of {SERIALS} serial numbers", of_serials),
 ]
-# How many times the files of the copy a run may need, where that is more than in tools/program runs: each prefix of a ROA is a
-# payload, and a line, or an object of JSON; each listed name is kept until all are known to be different.
+# How many times the files of the copy a run may need, where that is more than in tools/program runs: each prefix of a
+# ROA is a payload, and a line, or an object of JSON; each listed name is kept until all are known to be different.
 TIMES = {of_prefixes: 48, of_files: 8}
 
 

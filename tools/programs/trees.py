@@ -47,8 +47,8 @@ from crates import TOP
 from programs import running, strains
 from programs.formats import WRITERS, as_json, as_lines, refusals
 from programs.tree_rows import (
-    A, B, BAD, C, EXAMPLES, EXAMPLES_REFUSED, GONE, HASH, HOSTILE, LARGE, LEAST, MOST, MOST_MEMORY, TIMES, TREES, ZEROS, Tree,
-    beside_prefixes, make_tree, of_prefixes, path_of)
+    A, B, BAD, C, EXAMPLES, EXAMPLES_REFUSED, GONE, HASH, HOSTILE, LARGE, LEAST, MOST, MOST_MEMORY, TIMES, TREES, ZEROS,
+    Tree, beside_prefixes, make_tree, of_prefixes, path_of)
 from publication import HOST, MOMENT
 from verify_words import words as words_of
 
@@ -76,7 +76,8 @@ def wanted(tree, write=as_lines):
     found = [*tree.found.items(), *tree.again]
     said = [tree.error, *(f"refused {name}: {text}\n" for name, text in tree.faults)]
     for name, _ in found:
-        said += (f"refused {uri}: {cause} (under {under}, {name})\n" for uri, cause, under in refusals(tree.refused, name))
+        for uri, cause, under in refusals(tree.refused, name):
+            said.append(f"refused {uri}: {cause} (under {under}, {name})\n")
     return tree.status, write(found, tree.refused).encode(), "".join(said).encode()
 
 
@@ -127,7 +128,8 @@ class Trees(strains.Strained):
         """The names of opened files that lead out of the copy."""
         for name in self.opened:
             inside = name.removeprefix(f"{copy}/") if name.startswith(f"{copy}/") else ".."
-            if {"", ".", ".."} & {*inside.split("/")} and name.rstrip("/") != copy and name not in (*locators, *self.loader):
+            is_known = name.rstrip("/") == copy or name in locators or name in self.loader
+            if {"", ".", ".."} & {*inside.split("/")} and not is_known:
                 yield name
 
     def without_objects(self, name, tree, got):
@@ -192,8 +194,8 @@ def other_runs(runs):
 
 
 def progress(runs):
-    """A copy of a few more than 1,000 files: each thousand that is looked for is told. A point that is begun again is looked
-    for again."""
+    """A copy of a few more than 1,000 files: each thousand that is looked for is told. A point that is begun again is
+    looked for again."""
     tree, refused = Tree(), []
     for name in "pq":
         ca = tree.ca(name, ["10.9.0.0/16"])
@@ -209,8 +211,8 @@ def progress(runs):
 
 
 def memory(runs, tree, little):
-    """A file for which the memory does not suffice: the trust anchor's ends the run under its locator, and another one its
-    point."""
+    """A file for which the memory does not suffice: the trust anchor's ends the run under its locator, and another one
+    its point."""
     refused = Tree()
     refused.says(A + C, (refused.top.manifest, "not read: 1 CA, out of memory", refused.top.manifest))
     for path, want in ((f"{HOST}/ta/top.cer", (3, b"", b"refused one: out of memory\n")),
@@ -222,27 +224,27 @@ def memory(runs, tree, little):
 
 
 def more_and_more_memory(runs):
-    """Below one locator a CA with very many prefixes: with little memory its point is left unread, and with more of it the run
-    under that locator ends, in which they are put together. What is below another locator is printed, unless even that lacks
-    memory."""
+    """Below one locator a CA with very many prefixes: with little memory its point is left unread, and with more of it
+    the run under that locator ends, in which they are put together. What is below another locator is printed, unless
+    even that lacks memory."""
     tree = Tree()
     top = beside_prefixes(tree, 200_000)
     with runs.laid(tree):
         whole = wanted(tree)
         tree.found["two"], tree.refused["two"] = [], [(top.manifest, "not read: 1 CA, out of memory", top.manifest)]
-        choices, seen = [whole, wanted(tree), wanted(tree.fails("out of memory", "two", 3)), running.OUT_OF_MEMORY], set()
+        choices, seen = [whole, wanted(tree), wanted(tree.fails("out of memory", "two", 3))], set()
         for most in range(24, 256):
             got = runs.ran(asked(*tree.words), limit=running.limited(most << 20))
-            runs.judge(f"many prefixes in {most} MiB", got, *choices)
+            runs.judge(f"many prefixes in {most} MiB", got, *choices, running.OUT_OF_MEMORY)
             seen.add(got)
             if got == whole:
                 break
-    runs.judge("many prefixes, in more and more memory: there are all answers", [it in seen for it in choices[:3]], [True] * 3)
+    runs.judge("many prefixes, in more and more memory: there are all answers", {*choices} - seen, set())
 
 
 def states(tree):
-    """A few files of a tree, each with its octets, and what is said where it has others, or is not there: whose payloads are
-    gone then, and what is refused."""
+    """A few files of a tree, each with its octets, and what is said where it has others, or is not there: whose
+    payloads are gone then, and what is refused."""
     a, b, c = tree.a, tree.b, tree.c
     points = (f"{a.folder}o.roa", A + C, a, "o.roa", HASH), (f"{c.folder}o.roa", C, c, "o.roa", HASH), \
         (b.manifest, B, b, "manifest", None)
@@ -269,7 +271,8 @@ def changing(runs, tree):
     def change():
         for at in itertools.takewhile(lambda _: not stop.is_set(), itertools.count()):
             for step, (uri, _, _) in enumerate(files):
-                path, octets = f"{folder}/{path_of(uri)}", (there[path_of(uri)], b"other", None)[(at + step) // (step + 1) % 3]
+                path = f"{folder}/{path_of(uri)}"
+                octets = (there[path_of(uri)], b"other", None)[(at + step) // (step + 1) % 3]
                 if octets is None:
                     pathlib.Path(path).unlink(missing_ok=True)
                     continue
@@ -308,7 +311,8 @@ def hostile_tree(runs, name, change, count, limit, is_table, is_larger=False):
     with runs.laid(tree):
         sizes = runs.sizes("copy")
         least = max(limit, LEAST.get(change, 0)) if limit else None
-        got, seconds, most = runs.measured(asked("tals/one.tal", limit=least and str(least), format=None if is_cut else "json"))
+        words = asked("tals/one.tal", limit=least and str(least), format=None if is_cut else "json")
+        got, seconds, most = runs.measured(words)
         want = wanted(tree, as_lines if is_cut else as_json)
         is_found = has_neighbours(got, want) if is_cut else got == want
         work = work_of(runs, is_cut, want, got, seconds) if is_table and not limit else ""
@@ -336,8 +340,8 @@ def work_of(runs, is_cut, want, got, seconds):
 
 
 def has_neighbours(got, whole):
-    """Whether a run says of a hostile copy a part of what it says without a limit, and all that the CAs beside the hostile one
-    say."""
+    """Whether a run says of a hostile copy a part of what it says without a limit, and all that the CAs beside the
+    hostile one say."""
     (lines, refused), (most, others) = ([it.decode().splitlines() for it in each[1:]] for each in (got, whole))
     beside = as_lines([("one", A + C + B)]).splitlines()
     return (got[0] == 0 and {*beside} <= {*lines} <= {*most}
@@ -366,8 +370,8 @@ def large(runs, chosen):
 
 
 def cut_while_read(runs):
-    """A ROA of many prefixes that is cut at a moment of a run, up to when a run would have ended that refuses it: all that it
-    says is told, or its point is refused."""
+    """A ROA of many prefixes that is cut at a moment of a run, up to when a run would have ended that refuses it: all
+    that it says is told, or its point is refused."""
     tree, refused, words = Tree(), Tree(), asked("tals/one.tal")
     of_prefixes(tree, runs.cut_count)
     refused.says(B, (tree.a.manifest, f"o.roa {HASH}", tree.top.manifest))
@@ -380,7 +384,7 @@ def cut_while_read(runs):
         got = runs.cut_at_moments(file, octets, words, time.monotonic() - before)
     for it in got:
         runs.judge("a ROA that is cut while it is read", it, whole, cut)
-    print(f"a ROA of {len(octets)} octets that is cut while it is read, whole {got.count(whole)} of {len(got)} times", flush=True)
+    print(f"a ROA that is cut while it is read, whole {got.count(whole)} of {len(got)} times", flush=True)
 
 
 def is_chosen(name, words):

@@ -186,8 +186,8 @@ def check(folder, texts):
     try:
         for path, text in texts.items():
             (folder / path).write_text(text)
-        ran = subprocess.run(["rt", "check", "--jobs", "1"], cwd=folder, stdin=subprocess.DEVNULL, stdout=subprocess.PIPE,
-                             stderr=subprocess.STDOUT, errors="replace")
+        ran = subprocess.run(["rt", "check", "--jobs", "1"], cwd=folder, stdin=subprocess.DEVNULL,
+                             stdout=subprocess.PIPE, stderr=subprocess.STDOUT, errors="replace")
         return ran.returncode, ran.stdout.rstrip("\n").split("\n")
     finally:
         for path, text in before.items():
@@ -265,7 +265,8 @@ def in_groups(folder, edits):
 
 
 def put_together(folder, group):
-    """The texts of the files with all edits of a group, and the function of each edit there; None where one has none."""
+    """The texts of the files with all edits of a group, and the function of each edit there; None where one has
+    none."""
     texts, places = {}, {}
     for file in {file for file, _ in group}:
         text = (folder / file).read_text()

@@ -61,13 +61,14 @@ MOST = 10_000
 # refused.
 ASKS = re.compile(r"_no_memory$")
 MAKES = "reading_takes_memory"
-REFUSES_A_CALL = re.compile(r"(refused_\w+_(changes?_nothing|anchors_not_all|keeps_\w+)|the_same_\w+_(succeeds|signs))$")
+REFUSES_A_CALL = re.compile(
+    r"(refused_\w+_(changes?_nothing|anchors_not_all|keeps_\w+)|the_same_\w+_(succeeds|signs))$")
 # How the errors that stand for want of memory are written by `Debug`.
 OF_MEMORY = re.compile(r"^[Ee]rror: .*(Alloc|Memory|Reserve)", re.MULTILINE)
 # The allocation that rt try is asked to refuse, which no test reaches: its number is found again in the program.
 MARK = 1234567891
 # cmp $MARK, %rax; jne over; xor %eax, %eax: what stands in front of a refused allocation.
-REFUSES = re.compile(re.escape(b"\x48\x3d" + MARK.to_bytes(4, "little") + b"\x75") + rb"." + re.escape(b"\x31\xc0"), re.DOTALL)
+REFUSES = re.compile(re.escape(b"\x48\x3d" + MARK.to_bytes(4, "little")) + rb"\x75.\x31\xc0", re.DOTALL)
 # What each_growth.c takes in the place of the comparison: a trap, and nothing after it.
 TRAP = b"\xcc" + 5 * b"\x90"
 
@@ -80,8 +81,8 @@ Answers = collections.namedtuple("Answers", "status said count each")
 
 
 class Program:
-    """The program that rt try builds of tests: with a trap at each allocation, or with the number of the refused one changed in
-    its code."""
+    """The program that rt try builds of tests: with a trap at each allocation, or with the number of the refused one
+    changed in its code."""
 
     def __init__(self, program, seconds, room):
         self.path, self.seconds, self.room = program, seconds, room
@@ -90,7 +91,7 @@ class Program:
         # (a program that allocates nothing has none, and then its number nowhere)
         if not self.places and MARK.to_bytes(4, "little") in self.code:
             stop("no refused allocation is found in the program that rt try builds: this kit makes it otherwise")
-        self.preload = compiled(crates.TOP / "tools/testing/each_growth.c", room) or stop("each_growth.c is not compiled")
+        self.preload = compiled(pathlib.Path(__file__).with_name("each_growth.c"), room) or stop("there is no C compiler")
         self.trapped = self.changed({0: TRAP})
 
     def changed(self, octets):
@@ -132,8 +133,8 @@ class Program:
             os.remove(path)
 
     def count(self, test):
-        """Runs a test with ample memory: returns its status, what it said and the number of its allocations, the last at
-        which it can be ended."""
+        """Runs a test with ample memory: returns its status, what it said and the number of its allocations, the last
+        at which it can be ended."""
         status, said = self.refuse(test, MARK)
         if status != 0 or not self.places:
             return status, said, 0
@@ -191,7 +192,8 @@ def is_wrong(status, said):
 
 
 def judged(program, test, tests, count, ends):
-    """Whether what a test's name says of refused allocations is so, by whether it ended at each of them, and a word on it."""
+    """Whether what a test's name says of refused allocations is so, by whether it ended at each of them, and a word on
+    it."""
     asks, past, beside = ASKS.search(test), ends.count(False), f"{test.rpartition('::')[0]}::{MAKES}"
     if not asks and not REFUSES_A_CALL.search(test):
         return True, ""
@@ -225,7 +227,8 @@ def swept(program, test, tests):
         return Swept(count, memory, unchanged, len(wrong), f"{test}: WRONG {len(wrong)} times, the first {wrong[0]}")
     is_so, word = judged(program, test, tests, count, ends)
     right = f"all answers right{word and f' ({word})'}" if is_so else f"WRONG: {word}"
-    return Swept(count, memory, unchanged, int(not is_so), f"{test}: {count} growths refused, {memory} handed on, {right}")
+    line = f"{test}: {count} growths refused, {memory} handed on, {right}"
+    return Swept(count, memory, unchanged, int(not is_so), line)
 
 
 def told_of(at, count, status, said):
@@ -238,10 +241,11 @@ def told_of(at, count, status, said):
 # ---- the tests of a crate
 
 def hands_on(path):
-    """Whether a sweep hands want of memory on: growth, and one whose head, or that of the script that writes it, says so."""
+    """Whether a sweep hands want of memory on: growth, and one whose head, or that of the script that writes it, says
+    so."""
     text = path.read_text()
-    head = ast.get_docstring(ast.parse(text)) or "" if path.suffix == ".py" else "".join(re.findall(r"^//!.*", text, re.M))
-    return path.name == "growth.rattle" or "`tools/test growth`" in head
+    head = ast.get_docstring(ast.parse(text)) if path.suffix == ".py" else "".join(re.findall(r"^//!.*", text, re.M))
+    return path.name == "growth.rattle" or "`tools/test growth`" in (head or "")
 
 
 def sweeps_of(crate):
@@ -277,12 +281,14 @@ def built(folder, room):
 def programs_below(folder):
     """Where rt try may have put its program (this is asked often)."""
     with contextlib.suppress(OSError):
-        return [f"{part.path}/program" for it in os.scandir(folder) if it.is_dir() for part in os.scandir(it) if part.is_dir()]
+        parts = [part for it in os.scandir(folder) if it.is_dir() for part in os.scandir(it)]
+        return [f"{it.path}/program" for it in parts if it.is_dir()]
     return []
 
 
 def of_crate(crate, names, seconds):
-    """Tries the tests of a crate with these names, or all, prints a line for each, and returns what was found of each."""
+    """Tries the tests of a crate with these names, or all, prints a line for each, and returns what was found of
+    each."""
     found = []
     with tempfile.TemporaryDirectory() as room, tempfile.TemporaryDirectory() as copy:
         program = Program(built(sweep.made(crate, sweeps_of(crate), copy), room), seconds, room)

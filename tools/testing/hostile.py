@@ -41,10 +41,11 @@ def ran(name, is_unproved):
     tool, *words = COMMANDS[name].split()
     words += ["--unproved"] * (is_unproved and tool != "test")
     file, start = TOP / f"out/hostile/{name}.txt", time.monotonic()
+    env = os.environ | (FEWER if is_unproved else {})
     file.parent.mkdir(parents=True, exist_ok=True)
     with open(file, "w+", encoding="utf-8", errors="replace") as told:
-        status = subprocess.run([TOP / "tools" / tool, *words], cwd=TOP, env=os.environ | (FEWER if is_unproved else {}),
-                                stdin=subprocess.DEVNULL, stdout=told, stderr=subprocess.STDOUT).returncode
+        status = subprocess.run([TOP / "tools" / tool, *words], cwd=TOP, env=env, stdin=subprocess.DEVNULL, stdout=told,
+                                stderr=subprocess.STDOUT).returncode
     *_, last = ["", *(it for it in file.read_text(errors="replace").splitlines() if it.strip())]
     how = {0: "right", 2: "NOT RUN"}.get(status, "WRONG")
     print(f"{name}: {how}, {time.monotonic() - start:.0f} s: {last} ({file})", flush=True)

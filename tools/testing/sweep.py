@@ -1,7 +1,7 @@
 """Runs the sweeps of sweeps/: rows that are cut and followed, long input, and very many blocks.
 
-    tools/test sweep [--seconds N] [CRATE ..]    the sweeps of these crates, as rpki_der; with none, of all; each test may
-                                                 take so long, or else 60 seconds
+    tools/test sweep [--seconds N] [CRATE ..]    the sweeps of these crates, as rpki_der; with none, of all; each
+                                                 test may take so long, or else 60 seconds
 
 They are no part of the gate: nothing is proved, and `rt try --test` runs them. They stand on the code of the gate's
 tests. Those of rpki_NAME are the module NAME of the one crate of tests that has a file src/NAME.rt: that module is
@@ -35,8 +35,8 @@ FUZZED = "rpki_verify"
 
 
 def tests_of(crate):
-    """The crate of tests that has those of a crate, and the module that they are there; where there is none, the name of
-    a crate of their own and no module."""
+    """The crate of tests that has those of a crate, and the module that they are there; where there is none, the name
+    of a crate of their own and no module."""
     module = crate.removeprefix("rpki_")
     for file in TOP.glob(f"crates/*_tests/src/{module}.rt"):
         return file.parts[-3], module
@@ -58,8 +58,8 @@ def write(path, text, mode="w"):
 def add_gate_tests(tests, module, room):
     """Copies the module of a crate of tests, or, where there is none, all of the crate that there is."""
     source = TOP / "crates" / tests
-    parts = ("src", "specs", "proofs") if not module else [
-        f"{part}{end}" for part in (f"src/{module}", f"specs/{module.capitalize()}", f"proofs/{module}") for end in ("", ".rt", ".antt")]
+    named = f"src/{module}", f"specs/{module.capitalize()}", f"proofs/{module}"
+    parts = [f"{it}{end}" for it in named for end in ("", ".rt", ".antt")] if module else crates.PARTS
     for path in (it for it in [*(source / it for it in parts), *source.glob("proofs/*.antt")] if it.exists()):
         to = room / path.relative_to(source)
         to.parent.mkdir(parents=True, exist_ok=True)
