@@ -47,8 +47,8 @@ def printed(shown, programs):
         for name, path in programs.items():
             os.symlink(path, f"{room}/bin/{name}")
         given = {**os.environ, **ROOM, "PATH": f"{room}/bin:{os.environ['PATH']}", "LC_ALL": "C", "TMPDIR": room}
-        ran = subprocess.run(["bash", "-c", script], cwd=TOP, env=given, stdin=subprocess.DEVNULL,
-                             stdout=subprocess.PIPE, stderr=subprocess.STDOUT, text=True, errors="replace", timeout=SECONDS)
+        ran = subprocess.run(["bash", "-c", script], cwd=TOP, env=given, stdin=subprocess.DEVNULL, timeout=SECONDS,
+                             stdout=subprocess.PIPE, stderr=subprocess.STDOUT, text=True, errors="replace")
     return ran.stdout.split(END)
 
 

@@ -204,7 +204,8 @@ def judge(runs, printed, wanted, readers):
 def tree():
     """A tree with the least and the greatest numbers and lengths, and its origins and pairs."""
     made = Tree()
-    for file, number, prefixes in (("least.roa", 0, ["10.1.2.0/24-32", "10.1.255.255/32"]), ("most.roa", 4294967295, ["2001:db8:1::/64-128"])):
+    for file, number, prefixes in (("least.roa", 0, ["10.1.2.0/24-32", "10.1.255.255/32"]),
+                                   ("most.roa", 4294967295, ["2001:db8:1::/64-128"])):
         made.a.add_roa(file, number, prefixes)
         for prefix, _, most in (it.partition("-") for it in prefixes):
             made.found["one"].append(("origin", number, prefix, int(most or prefix.split("/")[1]), ""))

@@ -91,7 +91,8 @@ class Program:
         # (a program that allocates nothing has none, and then its number nowhere)
         if not self.places and MARK.to_bytes(4, "little") in self.code:
             stop("no refused allocation is found in the program that rt try builds: this kit makes it otherwise")
-        self.preload = compiled(pathlib.Path(__file__).with_name("each_growth.c"), room) or stop("there is no C compiler")
+        source = pathlib.Path(__file__).with_name("each_growth.c")
+        self.preload = compiled(source, room) or stop("there is no C compiler")
         self.trapped = self.changed({0: TRAP})
 
     def changed(self, octets):
