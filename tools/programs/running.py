@@ -147,6 +147,9 @@ class Runs(Count):
                 os.killpg(process.pid, signal.SIGKILL)
                 out, err = process.communicate()
                 status = None
+            except BaseException:
+                os.killpg(process.pid, signal.SIGKILL)
+                raise
         return status, out or b"", err or b""
 
     def measured(self, words, **settings):

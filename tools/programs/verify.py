@@ -241,7 +241,7 @@ def answers(here):
     """What checks say of one object, and of several, whatever is wrong with it."""
     every = []
     for kind, file, lines, _ in made.OBJECTS:
-        name, yes, other = os.path.basename(file), (0, b"yes\n" + lines, b""), "aspa" if kind == b"roa" else "roa"
+        name, yes, other = os.path.basename(file), (0, b"yes\n" + lines, b""), "aspa" if kind == "roa" else "roa"
         every.append((file, yes[1]))
         for at in (MOMENT, marked(MOMENT), "now", None):
             here.judge(f"check {name} at {at}", here.ran(check_words(file, at=at)), yes)
@@ -491,9 +491,9 @@ def whole_lines(at):
 def each_shown(here):
     """What is shown of one file, and of several."""
     every = [(file, whole_lines(at), kind) for at, (kind, file, _, _) in enumerate(made.OBJECTS)]
-    every += [(f"{made.PUBLISHED}/{name}", lines, b"crl" if name.endswith(".crl") else b"certificate")
+    every += [(f"{made.PUBLISHED}/{name}", lines, "crl" if name.endswith(".crl") else "certificate")
               for name, lines in ISSUED.items()]
-    every += [(TALS[0], TAL_LINES, b"tal"), (HOLDING, example_files.WHOLE_RTA.encode(), b"rta")]
+    every += [(TALS[0], TAL_LINES, "tal"), (HOLDING, example_files.WHOLE_RTA.encode(), "rta")]
     for file, lines, kind in every:
         yes = 0, lines, b""
         here.judge(f"show {file}", here.ran(show_words(file)), yes)
@@ -501,7 +501,7 @@ def each_shown(here):
         here.judge(f"show {file}, an option after it", here.ran([*show_words(file), b"--wide"]), yes)
     for at, (kind, file, _, _) in enumerate(made.OBJECTS):
         here.judge(f"show {file} as another kind",
-                   here.ran(show_words(file, kind="aspa" if kind == b"roa" else "roa")), ANOTHER_KIND)
+                   here.ran(show_words(file, kind="aspa" if kind == "roa" else "roa")), ANOTHER_KIND)
     said = b"".join(entry(file, lines) for file, lines, _ in every)
     here.judge("show files of each kind", here.ran(show_words(*(it[0] for it in every))), (0, said, b""))
     said = entry(ORIGIN, every[0][1]) + entry(CHAIN[0], b"malformed\n")
