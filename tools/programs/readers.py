@@ -176,11 +176,13 @@ def knows_aspas():
 
 # The readers of each format, and the programs that they need.
 READERS = {
-    "lines": [(of_lines,)], "--long": [(of_lines,)], "csv": [(of_csv,)], "json": [(of_json,), (of_router, "stayrtr", "rtrclient")],
+    "lines": [(of_lines,)], "--long": [(of_lines,)], "csv": [(of_csv,)],
+    "json": [(of_json,), (of_router, "stayrtr", "rtrclient")],
     "rpki-client": [(of_json,), (of_router, "stayrtr", "rtrclient")], "bird": [(of_bird, "bird", "birdc")],
     "openbgpd": [(of_openbgpd, "bgpd")]}
 ASPA_READERS = {
-    "lines": [(aspas_of_lines,)], "--long": [(aspas_of_lines,)], "json": [(aspas_of_json,)], "rpki-client": [(aspas_of_json,)],
+    "lines": [(aspas_of_lines,)], "--long": [(aspas_of_lines,)], "json": [(aspas_of_json,)],
+    "rpki-client": [(aspas_of_json,)],
     "openbgpd": [(aspas_of_openbgpd, "bgpd")]}
 
 

@@ -125,11 +125,6 @@ class Objects(Strained):
     def unreadable(self, name, why=b""):
         return unreadable(name)
 
-    def each(self, *rows):
-        """Runs, each with its words and what is wanted."""
-        for words, wanted in rows:
-            self.judge(running.said(words), self.ran(words), wanted)
-
     def tal(self, name, file, wanted):
         """A run that asks for the trust anchor locator in a file."""
         self.judge(name, self.ran(["show", "tal", file]), wanted)

@@ -43,6 +43,11 @@ class Strained(running.Runs):
         """What is said of a file that can't be read, by a program that may tell why."""
         raise NotImplementedError
 
+    def each(self, *rows):
+        """Runs, each with its words and what is wanted."""
+        for words, wanted in rows:
+            self.judge(said(words), self.ran(words), wanted)
+
     def asks(self, name, file, wanted, **settings):
         """A run that shows a file."""
         self.judge(name, self.ran([*self.words, file], **settings), wanted)

@@ -244,27 +244,22 @@ def answers(here):
         name, yes, other = os.path.basename(file), (0, b"yes\n" + lines, b""), "aspa" if kind == "roa" else "roa"
         every.append((file, yes[1]))
         for at in (MOMENT, marked(MOMENT), "now", None):
-            here.judge(f"check {name} at {at}", here.ran(check_words(file, at=at)), yes)
-        for what, words, wanted in (
-            ("with its kind", check_words(file, kind=kind), yes), ("after --", check_words("--", file), yes),
-            ("each option", check_words(file, options=OPTIONS), yes),
-            ("options after it", [*check_words(file), b"--wide", b"--relaxed", b"--wide"], yes),
-            ("as another kind", check_words(file, kind=other), ANOTHER_KIND),
-            ("under the trust anchor alone", check_words(file, chain=CHAIN[:1]), NOT_ISSUED),
-        ):
-            here.judge(f"check {name}, {what}", here.ran(words), wanted)
+            here.each((check_words(file, at=at), yes))
+        here.each((check_words(file, kind=kind), yes), (check_words("--", file), yes),
+                  (check_words(file, options=OPTIONS), yes),
+                  ([*check_words(file), b"--wide", b"--relaxed", b"--wide"], yes),
+                  (check_words(file, kind=other), ANOTHER_KIND), (check_words(file, chain=CHAIN[:1]), NOT_ISSUED))
     for file, cause in REFUSED:
-        here.judge(f"check {file}", here.ran(check_words(file)), refused(cause))
+        here.each((check_words(file), refused(cause)))
         every.append((file, b"refused: " + cause + b"\n"))
     here.write("none.roa", b"")
     every += [every[0], ("none.roa", EARLY_END[1])]
     for some in (every[:4], every[:5], every[4:6], every):
         files, said = [file for file, _ in some], b"".join(entry(*it) for it in some)
         status = 0 if len(some) == 4 else 1
-        here.judge(f"check {len(some)} files", here.ran(check_words(*files)), (status, said, b""))
+        here.each((check_words(*files), (status, said, b"")))
     some = [every[0], (CHAIN[0], b"malformed\n"), every[-1]]
-    here.judge("check --kind roa, files that are none", here.ran(check_words(*(file for file, _ in some), kind="roa")),
-               (1, b"".join(entry(*it) for it in some), b""))
+    here.each((check_words(*(file for file, _ in some), kind="roa"), (1, b"".join(entry(*it) for it in some), b"")))
 
 
 def held_by(here):
@@ -272,7 +267,8 @@ def held_by(here):
     held = b"".join(b"held " + os.fsencode(it) + b"\n" for it in made.AUTHORITY_FILES)
     letter = f"{made.EXAMPLES}/letter.sig"
     for folder, files in (("few", {"origin.roa": b"", "x.roa": b"", "authority.mft": b""}),
-                          ("letters", {"letter.txt": b"a letter\n", "any": b"no name\n"}), ("letter", {"letter.txt": b""}),
+                          ("letters", {"letter.txt": b"a letter\n", "any": b"no name\n"}),
+                          ("letter", {"letter.txt": b""}),
                           ("odd", {"\udcff": b"", "\udcfe.roa": b""})):
         os.mkdir(f"{here.room}/{folder}")
         for name, octets in files.items():
@@ -280,27 +276,23 @@ def held_by(here):
     missing = re.sub(rb"^held", b"missing", held, flags=re.M)
     lacking = missing.replace(b"missing origin", b"differs origin")
     no_texts = b"files not read, since their names are not UTF-8: 2\n"
-    for what, words, wanted in (
-        ("all are held", files_words(), (0, b"yes\nmanifest\n" + held, b"")),
-        ("now, with each option", files_words(at="now", options=OPTIONS), (0, b"yes\nmanifest\n" + held, b"")),
-        ("names that are no text", files_words(folder="odd"), (1, b"no\nmanifest\n" + missing + no_texts, b"")),
-        ("names that are no text, and a checklist", files_words(letter, "odd"),
-         (1, b"no\nrsc\nmissing letter.txt\nmissing " + NO_NAME + b"\n" + no_texts, b"")),
-        ("few are there", files_words(folder="few"), (1, b"no\nmanifest\n" + lacking + b"unlisted x.roa\n", b"")),
-        ("in JSON", files_words(options=["--json"]), in_json_line(made.MANIFEST, "manifest", True, held)),
-        ("few in JSON", files_words(folder="few", options=["--json"]),
-         in_json_line(made.MANIFEST, "manifest", False, lacking + b"unlisted x.roa\n")),
-        ("a checklist", files_words(letter, "letters"), (0, b"yes\nrsc\nheld letter.txt\nheld %s\n" % NO_NAME, b"")),
-        ("one of another file", files_words(letter, "letter"),
-         (1, b"no\nrsc\ndiffers letter.txt\nmissing %s\n" % NO_NAME, b"")),
-        ("no folder", files_words(folder="none"), (4, b"", b"no such folder: none\n")),
-        ("no object", files_words("none.mft"), unreadable(b"none.mft")),
-        ("a ROA", files_words(ORIGIN), (2, b"", b"no manifest and no checklist: " + os.fsencode(ORIGIN) + b"\n")),
-        ("under the trust anchor alone", files_words(chain=CHAIN[:1]), NOT_ISSUED),
-        ("no issuer", files_words(chain=[ORIGIN]), named_refusal(ORIGIN, b"malformed")),
-        ("no list", files_words(crl=ORIGIN), (2, b"", b"bad list " + os.fsencode(ORIGIN) + b"\n")),
-    ):
-        here.judge(f"files, {what}", here.ran(words), wanted)
+    here.each((files_words(), (0, b"yes\nmanifest\n" + held, b"")),
+              (files_words(at="now", options=OPTIONS), (0, b"yes\nmanifest\n" + held, b"")),
+              (files_words(folder="odd"), (1, b"no\nmanifest\n" + missing + no_texts, b"")),
+              (files_words(letter, "odd"),
+               (1, b"no\nrsc\nmissing letter.txt\nmissing " + NO_NAME + b"\n" + no_texts, b"")),
+              (files_words(folder="few"), (1, b"no\nmanifest\n" + lacking + b"unlisted x.roa\n", b"")),
+              (files_words(options=["--json"]), in_json_line(made.MANIFEST, "manifest", True, held)),
+              (files_words(folder="few", options=["--json"]),
+               in_json_line(made.MANIFEST, "manifest", False, lacking + b"unlisted x.roa\n")),
+              (files_words(letter, "letters"), (0, b"yes\nrsc\nheld letter.txt\nheld %s\n" % NO_NAME, b"")),
+              (files_words(letter, "letter"), (1, b"no\nrsc\ndiffers letter.txt\nmissing %s\n" % NO_NAME, b"")),
+              (files_words(folder="none"), (4, b"", b"no such folder: none\n")),
+              (files_words("none.mft"), unreadable(b"none.mft")),
+              (files_words(ORIGIN), (2, b"", b"no manifest and no checklist: " + os.fsencode(ORIGIN) + b"\n")),
+              (files_words(chain=CHAIN[:1]), NOT_ISSUED),
+              (files_words(chain=[ORIGIN]), named_refusal(ORIGIN, b"malformed")),
+              (files_words(crl=ORIGIN), (2, b"", b"bad list " + os.fsencode(ORIGIN) + b"\n")))
 
 
 def lists(here):
@@ -309,13 +301,10 @@ def lists(here):
     for file in files:
         wanted = 0, octets_of(f"{made.EXAMPLES}/{os.path.basename(file)}.verdicts"), b""
         for options in ([], OPTIONS):
-            here.judge(f"verdicts {file} {options}", here.ran(list_words(file, options=options)), wanted)
+            here.each((list_words(file, options=options), wanted))
     lines = octets_of(f"{made.EXAMPLES}/broken.roa.verdicts").splitlines(keepends=True)
-    here.judge(f"verdicts {BROKEN}", here.ran(list_words(BROKEN)), (0, b"".join(lines[:3]), b""))
-    here.judge("verdicts of a certificate", here.ran(list_words(CHAIN[0])), MALFORMED)
-    here.judge("verdicts under an object", here.ran(list_words(ORIGIN, [ORIGIN])), NO_ISSUER)
-    here.judge("verdicts under a file that is not there",
-               here.ran(list_words(ORIGIN, [*CHAIN, "none"])), unreadable(b"none"))
+    here.each((list_words(BROKEN), (0, b"".join(lines[:3]), b"")), (list_words(CHAIN[0]), MALFORMED),
+              (list_words(ORIGIN, [ORIGIN]), NO_ISSUER), (list_words(ORIGIN, [*CHAIN, "none"]), unreadable(b"none")))
 
 
 def attestations(here):
@@ -323,24 +312,19 @@ def attestations(here):
     for name, wanted in ATTESTATIONS:
         file = f"{made.EXAMPLES}/{name}"
         for at in (MOMENT, marked(MOMENT), "now", None):
-            here.judge(f"rta {file}, {at}", here.ran(rta_words(file, at=at)), wanted)
+            here.each((rta_words(file, at=at), wanted))
         there = octets_of(file)
         digests = {hashlib.sha256(there[at:at + 256]).hexdigest() for at in range(len(there))}
         lines = octets_of(f"{file}.verdicts").splitlines(keepends=True)
         good = lines[:2] + [it for it in lines[2:] if it.split()[2].decode() in digests]
-        here.judge(f"verdicts of {file}", here.ran(rta_list_words(file)), (0, b"".join(good), b""))
+        here.each((rta_list_words(file), (0, b"".join(good), b"")))
     under = f"ca={ORIGIN}"
     for anchor in ANCHORS:
-        here.judge(f"rta under {anchor!r} alone", here.ran(rta_words(AGREEMENT, anchor)),
-                   refused(b"RTA could not be validated"))
-    for what, words, wanted in (
-        ("rta under an object", rta_words(AGREEMENT, under), named_refusal(ORIGIN, b"malformed")),
-        ("rta under a locator that is none", rta_words(AGREEMENT, f"tal={ORIGIN}"), no_locator(ORIGIN)),
-        ("rta under a locator that is not there", rta_words(AGREEMENT, "tal=none"), unreadable(b"none")),
-        ("verdicts of an object under anchors", rta_list_words(ORIGIN), MALFORMED),
-        ("verdicts of an attestation under an object", rta_list_words(AGREEMENT, under), NO_ISSUER),
-    ):
-        here.judge(what, here.ran(words), wanted)
+        here.each((rta_words(AGREEMENT, anchor), refused(b"RTA could not be validated")))
+    here.each((rta_words(AGREEMENT, under), named_refusal(ORIGIN, b"malformed")),
+              (rta_words(AGREEMENT, f"tal={ORIGIN}"), no_locator(ORIGIN)),
+              (rta_words(AGREEMENT, "tal=none"), unreadable(b"none")), (rta_list_words(ORIGIN), MALFORMED),
+              (rta_list_words(AGREEMENT, under), NO_ISSUER))
 
 
 def no_locator(file):
@@ -381,60 +365,42 @@ def each_settings(here):
     other_key = named_refusal(anchor, b"key is not that of " + os.fsencode(other))
     late = named_refusal(authority, b"revoked by late.crl")
     keyless(here.room, authority)
-    for name, words, wanted in (
-        ("the locator", given_words(tal=own), yes),
-        ("another locator", given_words(tal=other), other_key),
-        ("no locator", given_words(tal=ORIGIN), bad_locator),
-        ("no locator, and no list", given_words(ORIGIN, tal=ORIGIN), bad_locator),
-        ("another locator, and no list", given_words(ORIGIN, tal=other), bad_list),
-        ("lists that revoke nothing", given_words(*empty, tal=own), yes),
-        ("a list that revokes the object", given_words(*empty, revoking), revoked),
-        ("a list of another CA", given_words("late.crl", chain=CHAIN[:1]), NOT_ISSUED),
-        ("lists of no CA", given_words(revoking, "late.crl", empty[1], files=(TALS[0],), chain=CHAIN[:1]),
-         (0, b"yes\n" + TAL_LINES, b"".join(b"no CA for list %s\n" % os.fsencode(it) for it in (revoking, empty[1])))),
-        ("lists that revoke a CA and the object", given_words(revoking, "late.crl"), late),
-        ("no list", given_words(*empty, ORIGIN, revoking), bad_list),
-        ("a list that revokes what is refused", given_words(revoking, files=(BROKEN,)),
-         refused(b"signature is not valid")),
-        ("a list that is not there", given_words("none"), unreadable(b"none")),
-        ("a locator that is not there", given_words(tal="none"), unreadable(b"none")),
-        ("a file that is not there", given_words(files=(ORIGIN, "none.mft")),
-         (4, entry(ORIGIN, yes[1]) + entry("none.mft", here.unreadable("none.mft")[1]), b"")),
-        ("files that are not there", given_words("no.crl", files=("no.roa",), tal="no.tal"), unreadable(b"no.tal")),
-        ("a certificate that is none", given_words(chain=[anchor, ORIGIN]), named_refusal(ORIGIN, b"malformed")),
-        ("a trust anchor that is none", given_words(chain=[ORIGIN]), named_refusal(ORIGIN, b"malformed")),
-        ("a certificate without its identifier", given_words(chain=[anchor, "keyless.cer"]),
-         named_refusal("keyless.cer", b"malformed: subjectKeyIdentifier is missing")),
-        ("a CA twice", given_words(chain=[*CHAIN, authority]),
-         named_refusal(authority, not_issued(ANCHOR_KEY, authority, CA_KEY))),
-        ("too early", given_words(at="2025-12-31T23:59:59Z"), named_refusal(anchor, b"certificate is not yet valid")),
-        ("too late, and another locator", given_words(at="20400101000001Z", tal=other),
-         named_refusal(anchor, b"certificate has expired")),
-        ("when it was good", given_words(files=(EXPIRED,), at="2026-05-01T00:00:00Z"), yes),
-        ("the certificate of the CA", given_words(files=(authority,), chain=CHAIN[:1]),
-         (0, b"yes\n" + ISSUED["anchor/authority.cer"], b"")),
-        ("that of a CA that is revoked", given_words("late.crl", files=(authority,), chain=CHAIN[:1]),
-         refused(b"revoked by late.crl")),
-        ("the certificate of another CA", given_words(files=(authority,)),
-         refused(not_issued(ANCHOR_KEY, authority, CA_KEY))),
-        ("one without its identifier", given_words(files=("keyless.cer",)),
-         (1, b"malformed: subjectKeyIdentifier is missing\n", b"")),
-        ("the list of the CA", given_words(files=empty[1:]), (0, b"yes\ncrl\n", b"")),
-        ("a list of the CA above", given_words(files=empty[:1]),
-         refused(b"authority key identifier is not the issuer's")),
-        ("a list that is late", given_words(files=("late.crl",), chain=CHAIN[:1]),
-         refused(b"stale: nextUpdate 2026-12-01T00:00:00Z")),
-        ("a list that is early", given_words(files=empty[1:], at="20261031000000Z"),
-         refused(b"not yet current: thisUpdate 2026-11-01T00:00:00Z")),
-        ("the locator of another trust anchor", given_words(files=TALS[1:]),
-         refused(b"the trust anchor has another key")),
-        ("what is no locator", given_words(files=(ORIGIN,), kind="tal"), MALFORMED),
-    ):
-        here.judge(f"check, {name}", here.ran(words), wanted)
+    here.each((given_words(tal=own), yes), (given_words(tal=other), other_key), (given_words(tal=ORIGIN), bad_locator),
+              (given_words(ORIGIN, tal=ORIGIN), bad_locator), (given_words(ORIGIN, tal=other), bad_list),
+              (given_words(*empty, tal=own), yes), (given_words(*empty, revoking), revoked),
+              (given_words("late.crl", chain=CHAIN[:1]), NOT_ISSUED),
+              (given_words(revoking, "late.crl", empty[1], files=(TALS[0],), chain=CHAIN[:1]),
+               (0, b"yes\n" + TAL_LINES, b"".join(b"no CA for list %s\n" % os.fsencode(it) for it in (revoking,
+                                                                                                      empty[1])))),
+              (given_words(revoking, "late.crl"), late), (given_words(*empty, ORIGIN, revoking), bad_list),
+              (given_words(revoking, files=(BROKEN,)), refused(b"signature is not valid")),
+              (given_words("none"), unreadable(b"none")), (given_words(tal="none"), unreadable(b"none")),
+              (given_words(files=(ORIGIN, "none.mft")),
+               (4, entry(ORIGIN, yes[1]) + entry("none.mft", here.unreadable("none.mft")[1]), b"")),
+              (given_words("no.crl", files=("no.roa",), tal="no.tal"), unreadable(b"no.tal")),
+              (given_words(chain=[anchor, ORIGIN]), named_refusal(ORIGIN, b"malformed")),
+              (given_words(chain=[ORIGIN]), named_refusal(ORIGIN, b"malformed")),
+              (given_words(chain=[anchor, "keyless.cer"]),
+               named_refusal("keyless.cer", b"malformed: subjectKeyIdentifier is missing")),
+              (given_words(chain=[*CHAIN, authority]),
+               named_refusal(authority, not_issued(ANCHOR_KEY, authority, CA_KEY))),
+              (given_words(at="2025-12-31T23:59:59Z"), named_refusal(anchor, b"certificate is not yet valid")),
+              (given_words(at="20400101000001Z", tal=other), named_refusal(anchor, b"certificate has expired")),
+              (given_words(files=(EXPIRED,), at="2026-05-01T00:00:00Z"), yes),
+              (given_words(files=(authority,), chain=CHAIN[:1]), (0, b"yes\n" + ISSUED["anchor/authority.cer"], b"")),
+              (given_words("late.crl", files=(authority,), chain=CHAIN[:1]), refused(b"revoked by late.crl")),
+              (given_words(files=(authority,)), refused(not_issued(ANCHOR_KEY, authority, CA_KEY))),
+              (given_words(files=("keyless.cer",)), (1, b"malformed: subjectKeyIdentifier is missing\n", b"")),
+              (given_words(files=empty[1:]), (0, b"yes\ncrl\n", b"")),
+              (given_words(files=empty[:1]), refused(b"authority key identifier is not the issuer's")),
+              (given_words(files=("late.crl",), chain=CHAIN[:1]), refused(b"stale: nextUpdate 2026-12-01T00:00:00Z")),
+              (given_words(files=empty[1:], at="20261031000000Z"),
+               refused(b"not yet current: thisUpdate 2026-11-01T00:00:00Z")),
+              (given_words(files=TALS[1:]), refused(b"the trust anchor has another key")),
+              (given_words(files=(ORIGIN,), kind="tal"), MALFORMED))
     providers = made.OBJECTS[1]
     said = entry(ORIGIN, revoked[1]) + entry(providers[1], b"yes\n" + providers[2])
-    here.judge("check, a list that revokes one of two",
-               here.ran(given_words(revoking, files=(ORIGIN, providers[1]))), (1, said, b""))
+    here.each((given_words(revoking, files=(ORIGIN, providers[1])), (1, said, b"")))
 
 
 def attestation_lists(room):
@@ -449,18 +415,17 @@ def attestation_lists(room):
 def each_attestations(here):
     """Attestations in checks: one chain anchors one of the two signers, or the only one."""
     yes = 0, b"yes\n" + HOLDING_LINES, b""
-    here.judge(f"check {HOLDING}", here.ran(check_words(HOLDING)), yes)
+    here.each((check_words(HOLDING), yes))
     alone = refused(b"RTA could not be validated")
     for file, chain, cause in ((HOLDING, CHAIN[:1], alone), (AGREEMENT, CHAIN, alone),
                                (f"{made.EXAMPLES}/broken.rta", CHAIN, refused(b"missing certificate"))):
-        here.judge(f"check {file}", here.ran(check_words(file, chain=chain)), cause)
+        here.each((check_words(file, chain=chain), cause))
     revoked = refused(b"revoked by customer.crl")
     attestation_lists(here.room)
     for lists, wanted in ((["holder.crl"], yes), (["holder.crl", "customer.crl", "customer.crl"], revoked)):
-        here.judge(f"check {HOLDING}, {lists}", here.ran(given_words(*lists, files=(HOLDING,))), wanted)
-    here.judge(f"check --json {HOLDING}, a list", here.ran(
-        given_words("customer.crl", files=(HOLDING,), options=["--json"])),
-        in_json_line(HOLDING, "rta", False, revoked[1].decode().strip()))
+        here.each((given_words(*lists, files=(HOLDING,)), wanted))
+    here.each((given_words("customer.crl", files=(HOLDING,), options=["--json"]),
+               in_json_line(HOLDING, "rta", False, revoked[1].decode().strip())))
 
 
 # Of each of made.OBJECTS what `openssl x509` prints of its signer's certificate: the serial number,
@@ -496,22 +461,20 @@ def each_shown(here):
     every += [(TALS[0], TAL_LINES, "tal"), (HOLDING, example_files.WHOLE_RTA.encode(), "rta")]
     for file, lines, kind in every:
         yes = 0, lines, b""
-        here.judge(f"show {file}", here.ran(show_words(file)), yes)
-        here.judge(f"show {file}, its kind and each option", here.ran(show_words(file, kind=kind, options=OPTIONS)), yes)
-        here.judge(f"show {file}, an option after it", here.ran([*show_words(file), b"--wide"]), yes)
+        here.each((show_words(file), yes), (show_words(file, kind=kind, options=OPTIONS), yes),
+                  ([*show_words(file), b"--wide"], yes))
     for at, (kind, file, _, _) in enumerate(made.OBJECTS):
-        here.judge(f"show {file} as another kind",
-                   here.ran(show_words(file, kind="aspa" if kind == "roa" else "roa")), ANOTHER_KIND)
+        here.each((show_words(file, kind="aspa" if kind == "roa" else "roa"), ANOTHER_KIND))
     said = b"".join(entry(file, lines) for file, lines, _ in every)
-    here.judge("show files of each kind", here.ran(show_words(*(it[0] for it in every))), (0, said, b""))
+    here.each((show_words(*(it[0] for it in every)), (0, said, b"")))
     said = entry(ORIGIN, every[0][1]) + entry(CHAIN[0], b"malformed\n")
-    here.judge("show a certificate as a ROA, as one of two",
-               here.ran(show_words(ORIGIN, CHAIN[0], kind="roa")), (1, said, b""))
-    for file, kind in ((CHAIN[0], "crl"), (f"{made.EXAMPLES}/revoking.crl", "certificate"), (ORIGIN, "certificate"), (ORIGIN, "tal")):
-        here.judge(f"show {file} as {kind}", here.ran(show_words(file, kind=kind)), malformed(file))
-    here.judge("show files one of which is not there, and one of no kind", here.ran(show_words(ORIGIN, "none.cer", "none.txt")),
-               (4, entry(ORIGIN, every[0][1]) + entry("none.cer", here.unreadable(b"none.cer")[1])
-                + b"none.txt: skipped: unknown kind of file: give --kind KIND\n", b""))
+    here.each((show_words(ORIGIN, CHAIN[0], kind="roa"), (1, said, b"")))
+    for file, kind in ((CHAIN[0], "crl"), (f"{made.EXAMPLES}/revoking.crl", "certificate"), (ORIGIN, "certificate"),
+                       (ORIGIN, "tal")):
+        here.each((show_words(file, kind=kind), malformed(file)))
+    here.each((show_words(ORIGIN, "none.cer", "none.txt"),
+               (4, entry(ORIGIN, every[0][1]) + entry("none.cer",
+                                                      here.unreadable(b"none.cer")[1]) + b"none.txt: skipped: unknown kind of file: give --kind KIND\n", b"")))
 
 
 def malformed(file):
@@ -533,43 +496,42 @@ def in_json_line(file, kind, is_valid, said):
     is looked at, these lines."""
     if isinstance(said, bytes):
         said = {"lines": said.decode().splitlines()}
-    return int(not is_valid), in_json(file, kind, valid=is_valid, **({"reason": said} if isinstance(said, str) else said)), b""
+    return int(not is_valid), in_json(file, kind, valid=is_valid,
+                                      **({"reason": said} if isinstance(said, str) else said)), b""
 
 
 def each_json(here):
     """Files that are shown and checked as objects of JSON."""
     shown = [in_json(file, kind, **said) for file, kind, said in FILES_IN_JSON]
     for (file, _, _), line in zip(FILES_IN_JSON, shown):
-        here.judge(f"show --json {file}", here.ran(show_words(file, options=["--json"])), (0, line, b""))
+        here.each((show_words(file, options=["--json"]), (0, line, b"")))
     files = [file for file, _, _ in FILES_IN_JSON]
-    here.judge("show --json, files of each kind", here.ran([*show_words(*files), b"--json"]), (0, b"".join(shown), b""))
+    here.each(([*show_words(*files), b"--json"], (0, b"".join(shown), b"")))
     keyless(here.room, CHAIN[1])
     for file, kind, cause in (
         (CHAIN[0], "roa", "malformed"), ("keyless.cer", "certificate", "malformed: subjectKeyIdentifier is missing"),
         (ORIGIN, "aspa", ANOTHER_KIND[1].decode().strip()), ("none", "crl", "cannot be read: no such file"),
     ):
-        here.judge(f"show --json, no {kind}", here.ran(show_words(file, kind=kind, options=["--json"])),
-                   (4 if file == "none" else 1, in_json_line(file, kind, False, cause)[1], b""))
+        here.each((show_words(file, kind=kind, options=["--json"]),
+                   (4 if file == "none" else 1, in_json_line(file, kind, False, cause)[1], b"")))
     checked = [(file, in_json_line(file, kind, True, MEMBERS[file])) for kind, file, *_ in made.OBJECTS]
     checked += [(HOLDING, in_json_line(HOLDING, "rta", True, MEMBERS[HOLDING]))]
     checked += [(file, in_json_line(file, "roa", False, f"refused: {cause.decode()}")) for file, cause in REFUSED]
     for file, wanted in checked:
-        here.judge(f"check --json {file}", here.ran(check_words(file, options=["--json"])), wanted)
+        here.each((check_words(file, options=["--json"]), wanted))
     lines = b"".join(line for _, (_, line, _) in checked)
-    here.judge("check --json, several files, and some that are not checked", here.ran(
-        [*check_words(*(file for file, _ in checked), "none.mft", "none.txt"), b"--json"]),
-        (4, lines + in_json_line("none.mft", "manifest", False, "cannot be read: no such file")[1]
-         + in_json_line("none.txt", "", False, "skipped: no kind that is checked")[1], b""))
-    here.judge("check --json, a certificate as a ROA", here.ran(check_words(CHAIN[0], kind="roa", options=["--json"])),
-               in_json_line(CHAIN[0], "roa", False, "malformed"))
+    here.each(([*check_words(*(file for file, _ in checked), "none.mft", "none.txt"), b"--json"],
+               (4, lines + in_json_line("none.mft", "manifest", False,
+                                        "cannot be read: no such file")[1] + in_json_line("none.txt", "", False,
+                                                                                          "skipped: no kind that is checked")[1], b"")),
+              (check_words(CHAIN[0], kind="roa", options=["--json"]),
+               in_json_line(CHAIN[0], "roa", False, "malformed")))
     cause = f"issuer refused: {CHAIN[0]}: certificate has expired"
     said = [in_json_line(file, kind, False, cause)[1] for file, kind in ((ORIGIN, "roa"), (HOLDING, "rta"))]
-    here.judge("check --json, the trust anchor has expired", here.ran(
-        check_words(ORIGIN, HOLDING, at="20410101000000Z", options=["--json"])), (1, b"".join(said), b""))
+    here.each((check_words(ORIGIN, HOLDING, at="20410101000000Z", options=["--json"]), (1, b"".join(said), b"")))
     for name in ('a"b.roa', "a\\b.roa", "\u00e9\U0001f511.roa"):
         shutil.copy(ORIGIN, os.fsencode(f"{here.room}/{name}"))
-        here.judge(f"check --json, the name {name!r}", here.ran(check_words(name, options=["--json"])),
-                   in_json_line(name, "roa", True, MEMBERS[ORIGIN]))
+        here.each((check_words(name, options=["--json"]), in_json_line(name, "roa", True, MEMBERS[ORIGIN])))
 
 
 def standard_input(here):
@@ -581,7 +543,8 @@ def standard_input(here):
     here.judge("check, -- before -", asked(check_words("--", "-", kind="roa"), ORIGIN), yes)
     said = entry("-", yes[1]) + entry("-", EARLY_END[1])
     here.judge("check - twice: there is nothing left", asked(check_words("-", "-", kind="roa"), ORIGIN), (1, said, b""))
-    here.judge("check - without its kind", asked(check_words("-"), ORIGIN), (1, b"skipped: no kind that is checked\n", b""))
+    here.judge("check - without its kind", asked(check_words("-"), ORIGIN),
+               (1, b"skipped: no kind that is checked\n", b""))
     here.judge("check ./-, which is a file", asked(check_words("./-", kind="roa"), ORIGIN), here.unreadable(b"./-"))
     here.write("zeros", bytes(strains.LARGE))
     for words, file, said, of_zeros in words_of_input(here):
@@ -612,11 +575,13 @@ def words_of_input(here):
         (list_words("-"), ORIGIN, listed, MALFORMED),
         (list_words(ORIGIN, authority), CHAIN[0], listed, NO_ISSUER),
         (rta_list_words("-"), AGREEMENT, carried, MALFORMED),
-        (payloads_words("-", format="csv"), own, (0, printed(as_csv, "-"), NO_ROAS.replace(b", anchor)", b", -)")), bad_locator),
+        (payloads_words("-", format="csv"), own, (0, printed(as_csv, "-"), NO_ROAS.replace(b", anchor)", b", -)")),
+         bad_locator),
     ]
     kinds = [("certificate", CHAIN[1]), ("crl", revoking), ("tal", own), ("rta", AGREEMENT),
              *((kind, file) for kind, file, _, _ in made.OBJECTS)]
-    return found + [(show_words("-", kind=kind), file, here.ran(show_words(file, kind=kind)), MALFORMED) for kind, file in kinds]
+    return found + [(show_words("-", kind=kind), file, here.ran(show_words(file, kind=kind)), MALFORMED) for kind,
+                    file in kinds]
 
 
 def in_pieces(here, words, octets):
@@ -666,10 +631,12 @@ def no_input(here, name, words):
 COPY = made.EXAMPLES
 TALS = f"{COPY}/anchor.tal", f"{COPY}/second.tal"
 TAL_LINES = b"tal\nuri rsync://rpki.example.net/anchor.cer\nkey 1A3A434D3CB238F39188C4ED212421A717BB7C97\n"
-NO_ROAS = b"".join(f"refused {uri}: {cause} (under {under}, anchor)\n".encode() for uri, cause, under in EXAMPLES_REFUSED)
+NO_ROAS = b"".join(f"refused {uri}: {cause} (under {under}, anchor)\n".encode() for uri, cause,
+                   under in EXAMPLES_REFUSED)
 NO_SECOND = b"refused second: manifest is not in the copy\n"
 # The same where there is no memory to read the point of the CA.
-UNREAD = [("rsync://rpki.example.net/anchor/anchor.mft", "not read: 1 CA, out of memory", "rsync://rpki.example.net/anchor/anchor.mft")]
+UNREAD = [("rsync://rpki.example.net/anchor/anchor.mft", "not read: 1 CA, out of memory",
+           "rsync://rpki.example.net/anchor/anchor.mft")]
 NO_MEMORY = b"refused %s: %s (under %s, anchor)\n" % (*map(str.encode, UNREAD[0]),)
 # The same where memory runs out in a run under a locator, but in no point below its trust anchor's.
 NO_RUN = b"refused %s: out of memory\n"
@@ -712,18 +679,14 @@ def payloads(here):
         said = printed(as_json) if at == marked(MOMENT) else made_now(got[1], before)
         here.judge(f"payloads at {at}", got, (0, said, NO_ROAS))
     lines = printed(as_lines)
-    for what, words, wanted in (
-        ("under two locators", payloads_words(*TALS), (1, lines, NO_SECOND + NO_ROAS)),
-        ("of no copy", payloads_words(copy="none"), (1, b"", NO_ANCHOR("none").encode())),
-        ("of -, which is no folder", payloads_words(copy="-"), (1, b"", NO_ANCHOR("-").encode())),
-        ("under no locator", payloads_words(ORIGIN), no_locator(ORIGIN)),
-        ("under a locator that is not there", payloads_words(TALS[0], "none"), unreadable(b"none")),
-        ("of files of 1 octet", payloads_words(max_file="1"), (1, b"", b"refused anchor: its certificate is too large\n")),
-        ("of files as large as the largest", payloads_words(max_file=str(LARGEST)), (0, lines, NO_ROAS)),
-        ("of smaller files", payloads_words(max_file=str(LARGEST - 1)), (0, b"", TOO_LARGE)),
-        ("with each option", payloads_words(max_file="20000000", limit="8589934592", options=["--wide", "-v"]), (0, lines, NO_ROAS)),
-    ):
-        here.judge(f"payloads {what}", here.ran(words), wanted)
+    here.each((payloads_words(*TALS), (1, lines, NO_SECOND + NO_ROAS)),
+              (payloads_words(copy="none"), (1, b"", NO_ANCHOR("none").encode())),
+              (payloads_words(copy="-"), (1, b"", NO_ANCHOR("-").encode())),
+              (payloads_words(ORIGIN), no_locator(ORIGIN)), (payloads_words(TALS[0], "none"), unreadable(b"none")),
+              (payloads_words(max_file="1"), (1, b"", b"refused anchor: its certificate is too large\n")),
+              (payloads_words(max_file=str(LARGEST)), (0, lines, NO_ROAS)),
+              (payloads_words(max_file=str(LARGEST - 1)), (0, b"", TOO_LARGE)),
+              (payloads_words(max_file="20000000", limit="8589934592", options=["--wide", "-v"]), (0, lines, NO_ROAS)))
 
 
 def laid(here, folder, tree):
@@ -739,7 +702,8 @@ def several_locators(here):
     name, later, sooner = 'two, "2"\\', "20370101000000Z", "20300101000000Z"
     other = publication.Ca("other", publication.EVERYTHING)
     under = publication.Ca("x", tree.a.claim, other)
-    for file, number, prefix, last in (("longer", 65001, "10.1.0.0/16-24", later), ("shorter", 65001, "2001:db8:1::/48", sooner),
+    for file, number, prefix, last in (("longer", 65001, "10.1.0.0/16-24", later),
+                                       ("shorter", 65001, "2001:db8:1::/48", sooner),
                                        ("own", 65003, "10.1.2.0/24", sooner)):
         under.add_roa(f"{file}.roa", number, [prefix], last=last)
     under.add_aspa("o.asa", 65001, [65011, 65012], last=sooner)
@@ -753,7 +717,8 @@ def several_locators(here):
     laid(here, "two", tree)
     origin, aspa = tree_rows.origin, tree_rows.aspa
     found = [("one", tree.found["one"]), (name, [
-        origin(65001, "10.1.0.0/16", 24, later), origin(65001, "2001:db8:1::/48", None, sooner), origin(65003, "10.1.2.0/24", None, sooner),
+        origin(65001, "10.1.0.0/16", 24, later), origin(65001, "2001:db8:1::/48", None, sooner),
+        origin(65003, "10.1.2.0/24", None, sooner),
         aspa(65001, 65011, 65012, until=sooner), aspa(65009, 65010, until=later)])]
     for order in (found, found[::-1]):
         tals = [f"two/{name}.tal" for name, _ in order]
@@ -787,7 +752,7 @@ def exceptions(here):
         here.judge(f"payloads after {what}", (*ran(text)[:2], b""), (2, b"", b""))
     for texts in slurm.OVERLAPPING:
         here.judge(f"payloads after {texts}", (*ran(*texts)[:2], b""), (2, b"", b""))
-    here.judge("payloads after exceptions that are not there", here.ran(payloads_words(slurm="none")), unreadable(b"none"))
+    here.each((payloads_words(slurm="none"), unreadable(b"none")))
 
 
 def moments(here):
@@ -802,7 +767,7 @@ def moments(here):
                           ("20400101000001Z", b"certificate has expired")):
         for at in (moment, marked(moment)):
             for words in (check_words(ORIGIN, at=at), files_words(at=at)):
-                here.judge(f"{words[0]!r} at {at}", here.ran(words), named_refusal(CHAIN[0], cause))
+                here.each((words, named_refusal(CHAIN[0], cause)))
 
 
 def signatures(here, room):
@@ -813,12 +778,11 @@ def signatures(here, room):
         changed[-at] ^= 1
         with open(name, "wb") as it:
             it.write(changed)
-        here.judge(f"octet {at} from the end changed", here.ran(check_words(name, kind="roa")),
-                   refused(b"signature is not valid"))
+        here.each((check_words(name, kind="roa"), refused(b"signature is not valid")))
     with open(name, "wb") as it:
         it.write(octets + b"more")
     yes = 0, b"yes\n" + made.ORIGIN_LINES, b""
-    here.judge("octets after the object", here.ran(check_words(name, kind="roa")), yes)
+    here.each((check_words(name, kind="roa"), yes))
     forged_certificate(here)
 
 
@@ -826,12 +790,13 @@ def forged_certificate(here):
     """A ROA whose certificate is signed by the key of another CA than its issuer."""
     tree = tree_rows.Tree()
     tree.a.add_roa("forged.roa", 65001, ["10.1.9.0/24"], by=publication.signer("b"))
-    for name, it in (("top.cer", tree.top.certificate()), ("a.cer", tree.a.certificate()), ("forged.roa", tree.a.files["forged.roa"]),
+    for name, it in (("top.cer", tree.top.certificate()), ("a.cer", tree.a.certificate()),
+                     ("forged.roa", tree.a.files["forged.roa"]),
                      ("twice.roa", tree.a.files["forged.roa"][:-1] + b"\0")):
         here.write(name, it)
     for name in ("forged.roa", "twice.roa"):
         said = refused(b"signature is not valid: the key in a.cer did not sign its certificate")
-        here.judge(f"check {name}", here.ran(check_words(name, chain=("top.cer", "a.cer"))), said)
+        here.each((check_words(name, chain=("top.cer", "a.cer")), said))
 
 
 def helps(here):
@@ -844,19 +809,21 @@ def helps(here):
         usage, about, listed, rest = (*out.decode().split("\n\n"), "", "", "")[:4]
         options = [(it[1:3], it[4], it[5]) for it in rows if len(it) == 6 and it[0] == command]
         wanted = [f"  {' '.join(words):<18}{help}{f': {form}' * bool(form)}" for words, form, help in options]
-        here.judge(f"{command} --help", (status, [about, *listed.split("\n"), rest[:5]], err), (0, [said, *wanted, "After"], b""))
+        here.judge(f"{command} --help", (status, [about, *listed.split("\n"), rest[:5]], err),
+                   (0, [said, *wanted, "After"], b""))
         parts = operands, bare, *(words[0] for words, *_ in options if words[0] != "--help")
         lacking = ", ".join(it for it in parts if it not in usage)
         here.judge(f"usage of {command}", (status, lacking, err), (0, "", b""))
         wanted = (f'rpki_verify: unknown option "--none": put -- before a file whose name begins with -\n{usage}\n'
                   f"rpki_verify {command} --help says more\n")
-        here.judge(f"{command} --none", here.ran([command.encode(), b"--none"]), (2, b"", wanted.encode()))
+        here.each(([command.encode(), b"--none"], (2, b"", wanted.encode())))
 
 
 def no_text(here):
     """Words that are no text (UTF-8)."""
-    for words in ([b"\xff"], [b"show", b"\xff.roa"], check_words(b"\xff.roa"), [*check_words(ORIGIN), b"--ca", b"\xff"]):
-        here.judge(f"words {words[-1]!r}", here.ran(words), (2, b"", b"rpki_verify: an argument is not UTF-8\n"))
+    for words in ([b"\xff"], [b"show", b"\xff.roa"], check_words(b"\xff.roa"),
+                  [*check_words(ORIGIN), b"--ca", b"\xff"]):
+        here.each((words, (2, b"", b"rpki_verify: an argument is not UTF-8\n")))
 
 
 def file_names(here):
@@ -869,21 +836,19 @@ def file_names(here):
         name = name[:251] + b".roa"
         path = os.path.join(os.fsencode(here.room), name)
         shutil.copy(ORIGIN, path)
-        here.judge(f"check {name[:20]!r}", here.ran(check_words("--", name)), (0, b"yes\n" + made.ORIGIN_LINES, b""))
+        here.each((check_words("--", name), (0, b"yes\n" + made.ORIGIN_LINES, b"")))
         os.remove(path)
     for count in (256, 5_000):
         name = b"n" * (count - 4) + b".roa"
-        here.judge(f"check a name of {count} octets", here.ran(check_words(name)), here.unreadable(name, b""))
+        here.each((check_words(name), here.unreadable(name, b"")))
 
 
 def special(here):
     """A folder, and files that are none of the disk."""
     os.mkdir(f"{here.room}/folder")
     here.asks("a folder", b"folder", here.unreadable(b"folder", b"is a folder"))
-    here.judge("an object that is a folder", here.ran(check_words("folder", kind="roa")),
-               here.unreadable(b"folder", b"is a folder"))
-    here.judge("a certificate that is a folder", here.ran(check_words(ORIGIN, chain=[*CHAIN, "folder"])),
-               unreadable(b"folder", b"is a folder"))
+    here.each((check_words("folder", kind="roa"), here.unreadable(b"folder", b"is a folder")),
+              (check_words(ORIGIN, chain=[*CHAIN, "folder"]), unreadable(b"folder", b"is a folder")))
     here.special_files()
 
 
@@ -933,9 +898,12 @@ EXPLAINED = words_of("explain", COPY, TALS[0], "rsync://rpki.example.net/authori
 def streams(here):
     """Streams that take nothing."""
     revoking = f"{made.EXAMPLES}/revoking.crl"
-    for asked in ([b"--help"], [b"--version"], [b"--options"], [b"check", b"--help"], check_words(ORIGIN), check_words(BROKEN),
-                  check_words(ORIGIN, BROKEN), given_words("late.crl"), check_words("none.roa"), check_words(CHAIN[0], "none"),
-                  show_words(ORIGIN, CHAIN[0]), show_words(CHAIN[0]), show_words(revoking), show_words(TALS[0]), show_words("none.roa"),
+    for asked in ([b"--help"], [b"--version"], [b"--options"], [b"check", b"--help"], check_words(ORIGIN),
+                  check_words(BROKEN),
+                  check_words(ORIGIN, BROKEN), given_words("late.crl"), check_words("none.roa"),
+                  check_words(CHAIN[0], "none"),
+                  show_words(ORIGIN, CHAIN[0]), show_words(CHAIN[0]), show_words(revoking), show_words(TALS[0]),
+                  show_words("none.roa"),
                   check_words(ORIGIN, options=["--json"]), check_words(BROKEN, ORIGIN, options=["--json"]),
                   show_words(ORIGIN, CHAIN[0], options=["--json"]), files_words(), files_words(options=["--json"]),
                   list_words(ORIGIN), rta_words(AGREEMENT), rta_list_words(AGREEMENT), EXPLAINED,
@@ -963,11 +931,15 @@ def memory(here, preload):
             *(here.ran(check_words(it, options=["--json"]))[1] for it in (ORIGIN, BROKEN)))
     in_turn(given_words(revoking), b"refused: revoked by " + os.fsencode(revoking) + b"\n")
     in_turn(given_words(revoking, files=(TALS[0],), chain=CHAIN[:1]), b"yes\n" + TAL_LINES)
-    for words in (check_words(CHAIN[1], chain=CHAIN[:1]), check_words(f"{made.AUTHORITY}/authority.crl"), given_words(ORIGIN),
+    for words in (check_words(CHAIN[1], chain=CHAIN[:1]), check_words(f"{made.AUTHORITY}/authority.crl"),
+                  given_words(ORIGIN),
                   given_words("late.crl", revoking), check_words(ORIGIN, tal=TALS[1]), check_words(ORIGIN, tal=ORIGIN),
-                  check_words(ORIGIN, at="then"), check_words(ORIGIN, chain=["none"]), check_words("none.roa"), [b"--help"],
-                  [b"--options"], [b"show", b"--at", b"now"], [b"show", b"--help"], files_words(), files_words(folder="few"),
-                  files_words(f"{made.EXAMPLES}/letter.sig", "letters", options=["--json"]), list_words(ORIGIN), EXPLAINED,
+                  check_words(ORIGIN, at="then"), check_words(ORIGIN, chain=["none"]), check_words("none.roa"),
+                  [b"--help"],
+                  [b"--options"], [b"show", b"--at", b"now"], [b"show", b"--help"], files_words(),
+                  files_words(folder="few"),
+                  files_words(f"{made.EXAMPLES}/letter.sig", "letters", options=["--json"]), list_words(ORIGIN),
+                  EXPLAINED,
                   *(rta_words(f"{made.EXAMPLES}/{name}") for name, _ in ATTESTATIONS), rta_list_words(AGREEMENT)):
         in_turn(words)
     shown = [file for file, _, _ in FILES_IN_JSON]
@@ -979,7 +951,8 @@ def memory(here, preload):
             said, unread = printed(write), printed(write, said=[], refused=UNREAD)
             here.refused_in_turn(preload, payloads_words(*TALS, options=options),
                                  (1, said, NO_SECOND + NO_ROAS), (1, unread, NO_SECOND + NO_MEMORY),
-                                 (3, printed(write, None), NO_RUN % b"anchor" + NO_SECOND), (3, said, NO_RUN % b"second" + NO_ROAS))
+                                 (3, printed(write, None), NO_RUN % b"anchor" + NO_SECOND),
+                                 (3, said, NO_RUN % b"second" + NO_ROAS))
     here.refused_in_turn(preload, payloads_words(copy="none"), (1, b"", NO_ANCHOR("none").encode()),
                          (3, b"", NO_RUN % b"anchor"))
 
@@ -1127,8 +1100,10 @@ def main(words):
         preload = running.compiled(TOP / "tools/programs/refuse_growth.c", room)
         if not preload:
             print("no refused allocations: there is no C compiler")
-        for part in (answers, held_by, lists, attestations, each_settings, each_attestations, each_shown, each_json, standard_input,
-                     payloads, several_locators, exceptions, moments, helps, no_text, file_names, special, each_when_done, streams):
+        for part in (answers, held_by, lists, attestations, each_settings, each_attestations, each_shown, each_json,
+                     standard_input,
+                     payloads, several_locators, exceptions, moments, helps, no_text, file_names, special,
+                     each_when_done, streams):
             part(here)
         pages.judge(here, here.programs)
         signatures(here, room)

@@ -32,7 +32,8 @@ use std::alloc::Global;
 # The iterator, its content, what is handed in besides, what is called, and what must live.
 ITERATORS = [
     ("FileListIter", "ManifestContent", "", "content.iter()", "content"),
-    ("ManifestUriIter", "ManifestContent", ", alloc: Global, base: Rsync", "content.iter_uris(alloc, &base)", "content"),
+    ("ManifestUriIter", "ManifestContent", ", alloc: Global, base: Rsync", "content.iter_uris(alloc, &base)",
+     "content"),
     ("ManifestUriIter", "ManifestContent", ", alloc: Global, base: Rsync", "content.iter_uris(alloc, &base)", "base"),
     ("CheckListIter", "ResourceSignedChecklist", "", "content.iter()", "content"),
     ("ProviderAsIter", "AsProviderAttestation", "", "content.provider_as_set().iter()", "content"),
