@@ -79,8 +79,8 @@ def ranged(prefix, length, most):
 
 def as_lines(found, *_):
     rows = [f"origin AS{number} {ranged(*block)}\n" for _, number, *block, _ in origins(found)]
-    rows += [f"aspa AS{customer} {' '.join(f'AS{it}' for it in several)}\n" for _, customer, several,
-             _ in customers(found)]
+    rows += [f"aspa AS{customer} {' '.join(f'AS{it}' for it in several)}\n"
+             for _, customer, several, _ in customers(found)]
     return "".join(rows)
 
 
@@ -127,8 +127,8 @@ def as_json(found, refused, moment=MOMENT):
     aspas = [{"customer": f"AS{customer}", "expires": seconds_of(until), "providers": [f"AS{it}" for it in several],
               "ta": name}
              for name, customer, several, until in customers(found)]
-    said = [{"ca": under, "reason": cause, "ta": name, "uri": uri} for name, _ in found for uri, cause,
-            under in refusals(refused, name)]
+    said = [{"ca": under, "reason": cause, "ta": name, "uri": uri}
+            for name, _ in found for uri, cause, under in refusals(refused, name)]
     return document(aspas=aspas, metadata=metadata(found, refused, moment), refused=said,
                     roas=roas(found, "AS{}".format))
 
@@ -141,10 +141,10 @@ def as_client(found, refused, moment=MOMENT):
 
 def as_bird(found, *_):
     def table(number, is_in):
-        routes = (f"\troute {prefix} max {most} as {asn};\n" for _, asn, prefix, _, most,
-                  _ in origins(found) if is_in(prefix))
-        return (f"roa{number} table ROAS{number};\n\nprotocol static origins{number} {{\n\troa{number} {{ table ROAS{number}; }};\n"
-                + "".join(routes) + "}\n")
+        routes = (f"\troute {prefix} max {most} as {asn};\n"
+                  for _, asn, prefix, _, most, _ in origins(found) if is_in(prefix))
+        return (f"roa{number} table ROAS{number};\n\nprotocol static origins{number} {{\n"
+                f"\troa{number} {{ table ROAS{number}; }};\n" + "".join(routes) + "}\n")
     return table(4, lambda it: ":" not in it) + "\n" + table(6, lambda it: ":" in it)
 
 

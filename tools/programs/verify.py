@@ -370,8 +370,7 @@ def each_settings(here):
               (given_words(*empty, tal=own), yes), (given_words(*empty, revoking), revoked),
               (given_words("late.crl", chain=CHAIN[:1]), NOT_ISSUED),
               (given_words(revoking, "late.crl", empty[1], files=(TALS[0],), chain=CHAIN[:1]),
-               (0, b"yes\n" + TAL_LINES, b"".join(b"no CA for list %s\n" % os.fsencode(it) for it in (revoking,
-                                                                                                      empty[1])))),
+               (0, b"yes\n" + TAL_LINES, f"no CA for list {revoking}\nno CA for list {empty[1]}\n".encode())),
               (given_words(revoking, "late.crl"), late), (given_words(*empty, ORIGIN, revoking), bad_list),
               (given_words(revoking, files=(BROKEN,)), refused(b"signature is not valid")),
               (given_words("none"), unreadable(b"none")), (given_words(tal="none"), unreadable(b"none")),
@@ -472,9 +471,9 @@ def each_shown(here):
     for file, kind in ((CHAIN[0], "crl"), (f"{made.EXAMPLES}/revoking.crl", "certificate"), (ORIGIN, "certificate"),
                        (ORIGIN, "tal")):
         here.each((show_words(file, kind=kind), malformed(file)))
-    here.each((show_words(ORIGIN, "none.cer", "none.txt"),
-               (4, entry(ORIGIN, every[0][1]) + entry("none.cer",
-                                                      here.unreadable(b"none.cer")[1]) + b"none.txt: skipped: unknown kind of file: give --kind KIND\n", b"")))
+    said = entry(ORIGIN, every[0][1]) + entry("none.cer", here.unreadable(b"none.cer")[1])
+    said += b"none.txt: skipped: unknown kind of file: give --kind KIND\n"
+    here.each((show_words(ORIGIN, "none.cer", "none.txt"), (4, said, b"")))
 
 
 def malformed(file):
@@ -520,10 +519,9 @@ def each_json(here):
     for file, wanted in checked:
         here.each((check_words(file, options=["--json"]), wanted))
     lines = b"".join(line for _, (_, line, _) in checked)
-    here.each(([*check_words(*(file for file, _ in checked), "none.mft", "none.txt"), b"--json"],
-               (4, lines + in_json_line("none.mft", "manifest", False,
-                                        "cannot be read: no such file")[1] + in_json_line("none.txt", "", False,
-                                                                                          "skipped: no kind that is checked")[1], b"")),
+    lines += in_json_line("none.mft", "manifest", False, "cannot be read: no such file")[1]
+    lines += in_json_line("none.txt", "", False, "skipped: no kind that is checked")[1]
+    here.each(([*check_words(*(file for file, _ in checked), "none.mft", "none.txt"), b"--json"], (4, lines, b"")),
               (check_words(CHAIN[0], kind="roa", options=["--json"]),
                in_json_line(CHAIN[0], "roa", False, "malformed")))
     cause = f"issuer refused: {CHAIN[0]}: certificate has expired"
@@ -580,8 +578,8 @@ def words_of_input(here):
     ]
     kinds = [("certificate", CHAIN[1]), ("crl", revoking), ("tal", own), ("rta", AGREEMENT),
              *((kind, file) for kind, file, _, _ in made.OBJECTS)]
-    return found + [(show_words("-", kind=kind), file, here.ran(show_words(file, kind=kind)), MALFORMED) for kind,
-                    file in kinds]
+    return found + [(show_words("-", kind=kind), file, here.ran(show_words(file, kind=kind)), MALFORMED)
+                    for kind, file in kinds]
 
 
 def in_pieces(here, words, octets):
@@ -631,8 +629,8 @@ def no_input(here, name, words):
 COPY = made.EXAMPLES
 TALS = f"{COPY}/anchor.tal", f"{COPY}/second.tal"
 TAL_LINES = b"tal\nuri rsync://rpki.example.net/anchor.cer\nkey 1A3A434D3CB238F39188C4ED212421A717BB7C97\n"
-NO_ROAS = b"".join(f"refused {uri}: {cause} (under {under}, anchor)\n".encode() for uri, cause,
-                   under in EXAMPLES_REFUSED)
+NO_ROAS = b"".join(f"refused {uri}: {cause} (under {under}, anchor)\n".encode()
+                   for uri, cause, under in EXAMPLES_REFUSED)
 NO_SECOND = b"refused second: manifest is not in the copy\n"
 # The same where there is no memory to read the point of the CA.
 UNREAD = [("rsync://rpki.example.net/anchor/anchor.mft", "not read: 1 CA, out of memory",
