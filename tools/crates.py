@@ -37,4 +37,4 @@ def copy(names, named, room, made=None):
                 if path.suffix == ".rattle":
                     to = to.with_suffix(".rt" if part == "src" else ".antt")
                 to.parent.mkdir(parents=True, exist_ok=True)
-                shutil.copyfile(path, to)
+                shutil.copy2(path, to)
