@@ -243,8 +243,7 @@ def answers(here):
     for kind, file, lines, _ in made.OBJECTS:
         name, yes, other = os.path.basename(file), (0, b"yes\n" + lines, b""), "aspa" if kind == "roa" else "roa"
         every.append((file, yes[1]))
-        for at in (MOMENT, marked(MOMENT), "now", None):
-            here.each((check_words(file, at=at), yes))
+        here.each(*((check_words(file, at=at), yes) for at in (MOMENT, marked(MOMENT), "now", None)))
         here.each((check_words(file, kind=kind), yes), (check_words("--", file), yes),
                   (check_words(file, options=OPTIONS), yes),
                   ([*check_words(file), b"--wide", b"--relaxed", b"--wide"], yes),
@@ -300,8 +299,7 @@ def lists(here):
     files = [file for _, file, _, _ in made.OBJECTS] + [made.OVERCLAIMING, EXPIRED]
     for file in files:
         wanted = 0, octets_of(f"{made.EXAMPLES}/{os.path.basename(file)}.verdicts"), b""
-        for options in ([], OPTIONS):
-            here.each((list_words(file, options=options), wanted))
+        here.each(*((list_words(file, options=options), wanted) for options in ([], OPTIONS)))
     lines = octets_of(f"{made.EXAMPLES}/broken.roa.verdicts").splitlines(keepends=True)
     here.each((list_words(BROKEN), (0, b"".join(lines[:3]), b"")), (list_words(CHAIN[0]), MALFORMED),
               (list_words(ORIGIN, [ORIGIN]), NO_ISSUER), (list_words(ORIGIN, [*CHAIN, "none"]), unreadable(b"none")))
@@ -311,16 +309,14 @@ def attestations(here):
     """What is said of each attestation, and the list of its good signatures."""
     for name, wanted in ATTESTATIONS:
         file = f"{made.EXAMPLES}/{name}"
-        for at in (MOMENT, marked(MOMENT), "now", None):
-            here.each((rta_words(file, at=at), wanted))
+        here.each(*((rta_words(file, at=at), wanted) for at in (MOMENT, marked(MOMENT), "now", None)))
         there = octets_of(file)
         digests = {hashlib.sha256(there[at:at + 256]).hexdigest() for at in range(len(there))}
         lines = octets_of(f"{file}.verdicts").splitlines(keepends=True)
         good = lines[:2] + [it for it in lines[2:] if it.split()[2].decode() in digests]
         here.each((rta_list_words(file), (0, b"".join(good), b"")))
     under = f"ca={ORIGIN}"
-    for anchor in ANCHORS:
-        here.each((rta_words(AGREEMENT, anchor), refused(b"RTA could not be validated")))
+    here.each(*((rta_words(AGREEMENT, anchor), refused(b"RTA could not be validated")) for anchor in ANCHORS))
     here.each((rta_words(AGREEMENT, under), named_refusal(ORIGIN, b"malformed")),
               (rta_words(AGREEMENT, f"tal={ORIGIN}"), no_locator(ORIGIN)),
               (rta_words(AGREEMENT, "tal=none"), unreadable(b"none")), (rta_list_words(ORIGIN), MALFORMED),
@@ -516,8 +512,7 @@ def each_json(here):
     checked = [(file, in_json_line(file, kind, True, MEMBERS[file])) for kind, file, *_ in made.OBJECTS]
     checked += [(HOLDING, in_json_line(HOLDING, "rta", True, MEMBERS[HOLDING]))]
     checked += [(file, in_json_line(file, "roa", False, f"refused: {cause.decode()}")) for file, cause in REFUSED]
-    for file, wanted in checked:
-        here.each((check_words(file, options=["--json"]), wanted))
+    here.each(*((check_words(file, options=["--json"]), wanted) for file, wanted in checked))
     lines = b"".join(line for _, (_, line, _) in checked)
     lines += in_json_line("none.mft", "manifest", False, "cannot be read: no such file")[1]
     lines += in_json_line("none.txt", "", False, "skipped: no kind that is checked")[1]
