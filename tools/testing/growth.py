@@ -333,9 +333,12 @@ def main(words):
     found = {}
     for crate in named or every:
         print(f"{crate}:", flush=True)
-        # (what is wrong with one is no fault of the others)
-        with contextlib.suppress(SystemExit):
+        try:
             found[crate] = of_crate(crate, names, given.seconds)
+        except SystemExit as end:
+            # (what is wrong with one is no fault of the others)
+            if end.code != 2:
+                raise
     if not names:
         print("\n| crate | tests | allocations refused | out of memory | as if nothing were refused | others |")
         print("|---|---|---|---|---|---|")
