@@ -181,7 +181,7 @@ class Runs(Count):
         self.judge(f"{name}, {size} octets, {said(words)}{peak}", got, *wanted)
 
     def refused_in_turn(self, preload, words, wanted, *others):
-        """Runs the program once for each allocation that it makes, with that one refused (tools/refuse_growth.c): each
+        """Runs the program once for each allocation that it makes, with that one refused (refuse_growth.c): each
         of the other answers that it may have is seen."""
         if not self.is_plain or not preload:
             return
