@@ -3,7 +3,7 @@
 #
 # rpki_verify tells its own words: `rpki_verify --options` prints its table of commands and options.
 # The calls of rpki_objects are those of SYNOPSIS in docs/rpki_objects.1, to which
-# `tools/completion --check` holds them; a word in capitals stands for what the user chooses.
+# `tools/program completion --check` holds them; a word in capitals stands for what the user chooses.
 
 _rpki_objects_calls='[--relaxed] [--registered] [--wide] content KIND FILE
 [--relaxed] [--registered] [--wide] show KIND FILE

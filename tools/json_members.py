@@ -1,5 +1,5 @@
 """What lines of JSON say, and what the lines of the programs come to in JSON: for tools/fuzz,
-tools/rows and tools/verify_runs.
+tools/rows and tools/program verify.
 
 `values_of` is stricter than Python's json module: a text is in UTF-8, no object has a name twice, at
 any depth (RFC 8259, sections 4 and 8.1), and what has to be one line is one. `members_of` makes the

@@ -1,7 +1,7 @@
 #!/usr/bin/env python3
 """Random attestations with what the definitions of rpki_paths say of them, computed on lists.
 
-    tools/paths_compare.py                 writes one row of each attestation, for tools/sweep rpki_paths
+    tools/paths_compare.py                 writes one row of each attestation, for tools/test sweep rpki_paths
     tools/paths_compare.py --count N --seed N
     tools/paths_compare.py --tell          tells how many rows have each answer, and what occurs in them
 

@@ -1,4 +1,4 @@
-"""Makes CAs and what they publish, with keys of 2048 bits: for tools/payloads_trees and
+"""Makes CAs and what they publish, with keys of 2048 bits: for tools/program trees and
 bench/payloads.
 
 The values in DER are those of examples/make.py. Signatures are made here, in place of a process of

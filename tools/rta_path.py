@@ -1,4 +1,4 @@
-"""Attestations of AS numbers in octets, whose signers stand below a path of CAs: for tools/runs and
+"""Attestations of AS numbers in octets, whose signers stand below a path of CAs: for tools/program runs and
 bench/attestation.
 
 They are signed as those of rta_compare.py are. Names are empty SEQUENCEs, and the moment is 1 June

@@ -1,6 +1,6 @@
 #!/usr/bin/env python3
 """Writes a module of tests that checks files of examples/ under revocation lists of their CAs, which
-are made here: which of them count, and which one is named. (tools/verify_runs has one of each sort.)"""
+are made here: which of them count, and which one is named. (tools/program verify has one of each sort.)"""
 import pathlib
 import sys
 

@@ -9,8 +9,8 @@ sys.dont_write_bytecode = True
 TOP = pathlib.Path(__file__).resolve().parent.parent.parent
 sys.path.append(str(TOP / "tools"))
 import example_files as examples  # noqa: E402
-from payload_formats import WRITERS, compact  # noqa: E402
-from payload_trees import EXAMPLES as FOUND, EXAMPLES_REFUSED  # noqa: E402
+from programs.formats import WRITERS, compact  # noqa: E402
+from programs.tree_rows import EXAMPLES as FOUND, EXAMPLES_REFUSED  # noqa: E402
 from verify_words import not_issued, words as words_of  # noqa: E402
 
 HEAD = '''//! The answers of the program with signatures, over streams that fail at each of their calls.

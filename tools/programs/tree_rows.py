@@ -1,7 +1,4 @@
-#!/usr/bin/env python3
 """Trees with one thing wrong each, hostile copies, and what `rpki_verify payloads` says of them.
-
-    tools/payload_trees.py FOLDER    makes copy/ and tals/ in FOLDER, with several things wrong
 
 Under the anchor `top` are the CAs `a` and `b`, and `c` is under `a`. The wrong thing is at `a`, or
 at the certificate of `c`. What `b` says stays, whatever is wrong there. Where a name leads out of
@@ -14,10 +11,8 @@ import hashlib
 import os
 import pathlib
 import stat
-import sys
 
-sys.dont_write_bytecode = True
-from publication import (  # noqa: E402
+from publication import (
     EVERYTHING, FUTURE, HOST, INHERITED, NEXT, PAST, SIGNED, Ca, Router, certificate, locator, make, shared,
     signer)
 
@@ -57,8 +52,7 @@ EXAMPLES_REFUSED = [(f"{BELOW}/{name}.roa", cause, f"{BELOW}/authority.mft") for
 # What the CAs say.
 PROVIDERS = [aspa(65001, 65010, 65011)]
 ORIGINS = [origin(65001, "10.1.0.0/16", 24), origin(65001, "2001:db8:1::/48")]
-A, B, C = (
-    PROVIDERS + ORIGINS, [origin(65002, "10.2.0.0/16")], [origin(65004, "10.1.4.0/24")])
+A, B, C = (PROVIDERS + ORIGINS, [origin(65002, "10.2.0.0/16")], [origin(65004, "10.1.4.0/24")])
 
 
 class Tree:
@@ -116,6 +110,9 @@ class Tree:
         self.faults.append((name, text))
         self.status = status
         return self
+
+    def locators(self):
+        return self.words or [f"tals/{it}" for it in self.tals]
 
     def written(self):
         """Each file of the copy, by its path."""
@@ -193,12 +190,10 @@ POINTS = [
     of_point("a manifest of zeros", f"manifest: {BAD}", lambda t: t.put(t.a.manifest, ZEROS)),
     of_point("a stale list", f"revocation list {STALE}", sets(list_times=times(SIGNED, PAST))),
     of_point("a list to come", f"revocation list {EARLY}", sets(list_times=times(FUTURE, NEXT))),
-    of_point("a list that another key signed", f"revocation list: {FORGED}",
-             sets(list_signer=lambda t: t.b.signer)),
+    of_point("a list that another key signed", f"revocation list: {FORGED}", sets(list_signer=lambda t: t.b.signer)),
     of_point("a list of another key", "revocation list: names another key",
              sets(list_signer=lambda t: t.b.signer, list_key=lambda t: t.b.signer)),
-    of_point("a list that is not listed", "revocation list is not listed",
-             sets(lists_it=lambda t: False)),
+    of_point("a list that is not listed", "revocation list is not listed", sets(lists_it=lambda t: False)),
     of_point("a revoked certificate of the manifest", f"manifest: {REVOKED}",
              sets(revoked=lambda t: [t.a.MANIFEST_SERIAL])),
     listed("../x.roa"), listed(".."), listed("."), listed("a/b.roa"), listed("/etc/passwd"),
@@ -235,11 +230,9 @@ FILES = [
     of_file("a revoked ROA", "o.roa", REVOKED, NO_ROAS, lambda t: t.a.revoke("o.roa")),
     of_file("a revoked ASPA", "o.asa", REVOKED, ORIGINS + C + B, lambda t: t.a.revoke("o.asa")),
     of_file("an expired ROA", "o.roa", ENDED, NO_ROAS, with_roa(last=PAST)),
-    of_file("a ROA that another key signed", "o.roa", FORGED, NO_ROAS,
-            with_roa(by=lambda t: t.b.signer)),
+    of_file("a ROA that another key signed", "o.roa", FORGED, NO_ROAS, with_roa(by=lambda t: t.b.signer)),
     of_file("an overclaiming ROA", "o.roa", WIDE_IPV4, NO_ROAS, with_roa("10.2.0.0/16")),
-    of_file("a ROA whose certificate inherits", "o.roa", NO_AS, NO_ROAS,
-            with_roa(claim=make.Claim(make.INHERIT, []))),
+    of_file("a ROA whose certificate inherits", "o.roa", NO_AS, NO_ROAS, with_roa(claim=make.Claim(make.INHERIT, []))),
     of_file("a ROA whose certificate has AS numbers", "o.roa", NO_AS, NO_ROAS,
             with_roa(claim=make.Claim(["10.1.0.0/16"], [(65001, 65001)]))),
     of_file("an overclaiming child", "c.cer", WIDE_IPV4, A + B, wide),
@@ -267,8 +260,7 @@ def silent(t):
 
 
 def certify(t, above, ca, claim, name, manifest=None, **more):
-    """One CA lists a certificate with the key and the folder of another one, and its manifest or this
-    one."""
+    """One CA lists a certificate with the key and the folder of another one, and its manifest or this one."""
     key = copy.copy(ca.signer)
     other = Ca(ca.name, claim, above, key=key, folder=ca.folder, manifest=manifest or ca.manifest)
     above.add(name, other.certificate(above, **more))
@@ -279,8 +271,7 @@ def ring(t):
     `a` claim too much."""
     certify(t, t.c, t.a, t.c.claim, "again.cer")
     certify(t, t.a, t.a, t.c.claim, "again.cer")
-    t.says(A + C + B, (t.roa, WIDE_IPV4, t.a.manifest),
-           (f"{t.a.folder}o.asa", WIDE_AS, t.a.manifest))
+    t.says(A + C + B, (t.roa, WIDE_IPV4, t.a.manifest), (f"{t.a.folder}o.asa", WIDE_AS, t.a.manifest))
 
 
 def two_parents(t):
@@ -673,8 +664,7 @@ def addresses(family, items):
 
 
 def list_more(t, ca, count, is_last=False):
-    """The manifest of a CA lists so many files that are not there, after its revocation list, or before
-    it."""
+    """The manifest of a CA lists so many files that are not there, after its revocation list, or before it."""
     own, more = [f"{ca.name}.crl"] * ca.lists_it, [f"{at}.roa" for at in range(count)]
     list_names(t, ca, more + own if is_last else own + more)
 
@@ -876,8 +866,7 @@ def long_chain(t, count):
 
 
 def split(t, count):
-    """A CA below a hostile one. Of a few addresses that this one has it has so many blocks: each
-    second /32."""
+    """A CA below a hostile one. Of a few addresses that this one has it has so many blocks: each second /32."""
     h = hostile(t, also=["3000::/8"])
     x = below(t, h)
     items = b"".join(make.bits(b"\x30" + (2 * at).to_bytes(3, "big")) for at in range(count))
@@ -984,8 +973,7 @@ def long_names(t, count):
 
 
 def last_list(t, count):
-    """The same, with the revocation list after all of them. It takes time: the list is looked for among
-    the files."""
+    """The same, with the revocation list after all of them. It takes time: the list is looked for among the files."""
     h = hostile(t, folder=LONG_FOLDER)
     list_more(t, h, count, is_last=True)
     t.says(A + C + B, (h.manifest, f"0.roa {GONE}", t.top.manifest))
@@ -1185,10 +1173,8 @@ def each_is(what, it):
         of_point(f"a list of {what}", f"revocation list: {BAD}", lambda t: (
             vars(t.a).update(lists_it=False), t.a.files.update({"a.crl": it}))),
         of_file(f"a ROA of {what}", "o.roa", BAD, NO_ROAS, octets(it)),
-        of_file(f"an ASPA of {what}", "o.asa", BAD, ORIGINS + C + B,
-                lambda t: t.a.files.update({"o.asa": it})),
-        of_file(f"a certificate of {what}", "c.cer", BAD, A + B,
-                lambda t: t.a.files.update({"c.cer": it})),
+        of_file(f"an ASPA of {what}", "o.asa", BAD, ORIGINS + C + B, lambda t: t.a.files.update({"o.asa": it})),
+        of_file(f"a certificate of {what}", "c.cer", BAD, A + B, lambda t: t.a.files.update({"c.cer": it})),
         (f"an anchor of {what}", anchor_is(lambda t: it, OTHER_KEY)),
         (f"a locator of {what}", stops("tals/bad.tal", it)[1]),
     ]
@@ -1201,28 +1187,19 @@ LARGE = [
     (f"a manifest of {FILES_LISTED} files", of_files),
     (f"a list of {SERIALS} serial numbers", of_serials),
 ]
-# How many times the files of the copy a run may need, where that is more than in tools/runs: each
-# prefix of a ROA is a payload, and a line, or an object of JSON; each listed name is kept until all are
-# known to be different.
+# How many times the files of the copy a run may need, where that is more than in tools/program runs: each prefix of a
+# ROA is a payload, and a line, or an object of JSON; each listed name is kept until all are known to be different.
 TIMES = {of_prefixes: 48, of_files: 8}
 
 
 # ---- a tree on disk, for docs/COOKBOOK.md
 
-def main(words):
-    if len(words) != 1 or words[0].startswith("-"):
-        print(__doc__, end="")
-        return 0 if words in (["-h"], ["--help"]) else 2
+def make_tree(folder):
+    """Makes copy/ and tals/ in a folder, with several things wrong."""
     tree = Tree()
     several_wrong(tree)
     files = {f"copy/{path}": octets for path, octets in tree.written().items()}
-    files |= {f"tals/{name}": octets for name, octets in tree.tals.items()}
-    for path, octets in files.items():
-        path = pathlib.Path(words[0], path)
+    for name, octets in (files | {f"tals/{name}": octets for name, octets in tree.tals.items()}).items():
+        path = pathlib.Path(folder, name)
         path.parent.mkdir(parents=True, exist_ok=True)
         path.write_bytes(octets)
-    return 0
-
-
-if __name__ == "__main__":
-    sys.exit(main(sys.argv[1:]))

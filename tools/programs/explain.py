@@ -1,30 +1,19 @@
-#!/usr/bin/env python3
 """What `rpki_verify explain` says of objects of made copies, and of those of examples/.
 
-    tools/explain_rows.py [PROGRAM [WORD ..]]    those with one of the words in their names, or all
+    tools/program explain [--unproved | --in FOLDER] [WORD ..]    those with one of the words in their names, or all
 
-PROGRAM is crates/rpki_verify/out/rpki_verify unless it is given. Each row has a name, a function that
-changes a `Tree` of tools/payload_trees.py, and one that gives of it what is explained, the status,
-and the lines. `cases` makes of them folders of files, words, and what both streams have to be.
-
-Prints a line for each run that is not as wanted, and at last how many passed and failed. The status
-is 0 where all were as wanted.
+Each row has a name, a function that changes a `Tree` of tree_rows.py, and one that gives of it what is explained, the
+status, and the lines. `cases` makes of them folders of files, words, and what both streams have to be. Prints a line
+for each run that is not as wanted.
 """
-import os
-import pathlib
-import subprocess
-import sys
 import tempfile
 
-sys.dont_write_bytecode = True
-sys.path.insert(0, os.path.dirname(os.path.realpath(__file__)))
-from payload_trees import (  # noqa: E402
-    ENDED, FORGED, GONE, HASH, REVOKED, STALE, WIDE_IPV4, Tree, path_of, sets, times)
-from publication import HOST, PAST, SIGNED, Ca, locator, make, shared  # noqa: E402
-from verify_words import words as words_of  # noqa: E402
+from crates import TOP
+from programs import running
+from programs.tree_rows import (ENDED, FORGED, GONE, HASH, REVOKED, STALE, WIDE_IPV4, Tree, path_of, sets, times)
+from publication import HOST, PAST, SIGNED, Ca, locator, make, shared
+from verify_words import words as words_of
 
-TOP = pathlib.Path(__file__).resolve().parent.parent
-PROGRAM = f"{TOP}/crates/rpki_verify/out/rpki_verify"
 AT = "2027-01-01T00:00:00Z"
 UNTIL = "2036-01-01T00:00:00Z"
 NO_ISSUER = "names no issuer, and is not the trust anchor"
@@ -91,8 +80,7 @@ def is_file(copied=False):
     """The same of a file of the copy, or of a copy of it elsewhere."""
     def row(at, t):
         word = f"{at}/elsewhere/o.roa" if copied else f"{at}/copy/{path_of(t.roa)}"
-        return word, 0, [*way(at, t, word, t.a), *point(t.a), good("entry", t.roa),
-                         good("object", t.roa), yes(word, 2)]
+        return word, 0, [*way(at, t, word, t.a), *point(t.a), good("entry", t.roa), good("object", t.roa), yes(word, 2)]
     return row
 
 
@@ -100,8 +88,7 @@ def refused(name, cause, step="object"):
     """A file of the CA `a` is refused."""
     def row(at, t):
         uri = f"{t.a.folder}{name}"
-        return uri, 1, [*way(at, t, uri, t.a), *point(t.a), good("entry", uri),
-                        f"{step} {uri}: {cause}", no(uri)]
+        return uri, 1, [*way(at, t, uri, t.a), *point(t.a), good("entry", uri), f"{step} {uri}: {cause}", no(uri)]
     return row
 
 
@@ -137,8 +124,7 @@ def unlisted(t):
 
 def is_unlisted(at, t):
     uri = f"{t.a.folder}u.roa"
-    return uri, 1, [*way(at, t, uri, t.a), *point(t.a),
-                    f"entry {uri}: is not listed, or names nothing", no(uri)]
+    return uri, 1, [*way(at, t, uri, t.a), *point(t.a), f"entry {uri}: is not listed, or names nothing", no(uri)]
 
 
 def other_octets(t):
@@ -156,8 +142,7 @@ def elsewhere(octets):
 
 def is_another(at, t):
     word = f"{at}/elsewhere/o.roa"
-    return word, 1, [*way(at, t, word, t.a), *point(t.a),
-                     f"entry {t.roa}: the copy has another file", no(word)]
+    return word, 1, [*way(at, t, word, t.a), *point(t.a), f"entry {t.roa}: the copy has another file", no(word)]
 
 
 def other_tree(t):
@@ -172,8 +157,7 @@ def other_tree(t):
 
 def is_of_other(at, t):
     word = f"{t.under.folder}o.roa"
-    return word, 1, [*anchor(at), *up(word, t.under, t.other),
-                     f"certificate {t.other.uri}: {NO_ISSUER}", no(word)]
+    return word, 1, [*anchor(at), *up(word, t.under, t.other), f"certificate {t.other.uri}: {NO_ISSUER}", no(word)]
 
 
 def ends(at, t):
@@ -195,8 +179,7 @@ def circle(t):
 
 def is_circle(at, t):
     word = f"{t.x.folder}o.roa"
-    return word, 1, [*anchor(at), *up(word, t.x, t.y, t.x), f"certificate {t.x.uri}: is above itself",
-                     no(word)]
+    return word, 1, [*anchor(at), *up(word, t.x, t.y, t.x), f"certificate {t.x.uri}: is above itself", no(word)]
 
 
 def long_chain(t, count=101):
@@ -242,8 +225,7 @@ def is_trust_anchor(at, t):
 
 def is_manifest(at, t):
     word = t.a.manifest
-    return word, 0, [*way(at, t, word, t.a), *point(t.a),
-                     f"yes: {word} is good, and all that it lists is there"]
+    return word, 0, [*way(at, t, word, t.a), *point(t.a), f"yes: {word} is good, and all that it lists is there"]
 
 
 def of_manifest(cause):
@@ -258,8 +240,7 @@ def of_anchor(cause):
 
 
 def another_kind(at, t):
-    return t.a.crl, 1, [*anchor(at), f"object {t.a.crl}: no payloads come from a file of its kind",
-                        no(t.a.crl)]
+    return t.a.crl, 1, [*anchor(at), f"object {t.a.crl}: no payloads come from a file of its kind", no(t.a.crl)]
 
 
 def malformed(at, t):
@@ -296,13 +277,11 @@ ROWS = [
     ("a copy of it elsewhere", elsewhere(lambda t: t.a.files["o.roa"]), is_file(True)),
     ("another file elsewhere", elsewhere(lambda t: t.a.object(
         "o.roa", make.ROA, make.roa(65001, ["10.1.0.0/16"]), make.Claim(["10.1.0.0/16"], []))), is_another),
-    ("an expired ROA", lambda t: t.a.add_roa("o.roa", 65001, ["10.1.0.0/16"], last=PAST),
-     refused("o.roa", ENDED)),
+    ("an expired ROA", lambda t: t.a.add_roa("o.roa", 65001, ["10.1.0.0/16"], last=PAST), refused("o.roa", ENDED)),
     ("a revoked ROA", lambda t: t.a.revoke("o.roa"), refused("o.roa", REVOKED)),
     ("a ROA that another key signed",
      lambda t: t.a.add_roa("o.roa", 65001, ["10.1.0.0/16"], by=t.b.signer), refused("o.roa", FORGED)),
-    ("an overclaiming ROA", lambda t: t.a.add_roa("o.roa", 65001, ["10.2.0.0/16"]),
-     refused("o.roa", WIDE_IPV4)),
+    ("an overclaiming ROA", lambda t: t.a.add_roa("o.roa", 65001, ["10.2.0.0/16"]), refused("o.roa", WIDE_IPV4)),
     ("a revoked CA", lambda t: t.a.revoke("c.cer"), refused_above("o.roa", REVOKED)),
     ("a ROA that is not listed", unlisted, is_unlisted),
     ("a ROA with another hash", other_octets, of_point(BROKEN_POINT, f"entry {{folder}}o.roa: {HASH}")),
@@ -310,14 +289,12 @@ ROWS = [
      of_point(BROKEN_POINT, f"entry {{folder}}o.asa: {HASH}")),
     ("another file is missing", lambda t: t.lose(f"{t.a.folder}o.asa"),
      of_point(BROKEN_POINT, f"entry {{folder}}o.asa: {GONE}")),
-    ("the list is missing", lambda t: t.lose(t.a.crl),
-     of_point(BROKEN_POINT, f"entry {{folder}}a.crl: {GONE}")),
+    ("the list is missing", lambda t: t.lose(t.a.crl), of_point(BROKEN_POINT, f"entry {{folder}}a.crl: {GONE}")),
     ("a stale list", sets(list_times=times(SIGNED, PAST)),
      of_point(BROKEN_POINT, f"list of {{manifest}}: revocation list {STALE}")),
     ("a stale list of the CA above its issuer", sets(list_times=times(SIGNED, PAST)), of_point_above(
         BROKEN_POINT, f"list of {{manifest}}: revocation list {STALE}")),
-    ("a missing manifest", lambda t: t.lose(t.a.manifest),
-     of_point(f"manifest {{manifest}}: manifest {GONE}")),
+    ("a missing manifest", lambda t: t.lose(t.a.manifest), of_point(f"manifest {{manifest}}: manifest {GONE}")),
     ("a stale manifest", sets(manifest_times=times(SIGNED, PAST)),
      of_point(f"manifest {{manifest}}: manifest {STALE}")),
     ("an object of another tree", other_tree, is_of_other),
@@ -381,33 +358,15 @@ no: {EXPIRED} gives nothing
 """.encode(), b"")
 
 
-def lay(files):
-    for path, octets in files.items():
-        os.makedirs(os.path.dirname(path), exist_ok=True)
-        pathlib.Path(path).write_bytes(octets)
-
-
-def ran(program, words):
-    run = subprocess.run([program, *words], cwd=TOP, stdin=subprocess.DEVNULL, capture_output=True,
-                         timeout=120, check=False)
-    return run.returncode, run.stdout, run.stderr
-
-
 def main(words):
-    program, *asked = words or [PROGRAM]
-    right = wrong = 0
+    reader = running.reader()
+    reader.add_argument("words", nargs="*")
+    given = reader.parse_args(words)
     with tempfile.TemporaryDirectory(prefix="explain-") as room:
-        for name, files, given, wanted in [*cases(room), ("examples/", {}, *EXAMPLE)]:
-            if asked and not any(it in name for it in asked):
-                continue
-            lay(files)
-            got = ran(program, given)
-            right, wrong = right + (got == wanted), wrong + (got != wanted)
-            if got != wanted:
-                print(f"WRONG: {name}\n  got    {got!s:.3000}\n  wanted {wanted!s:.3000}", flush=True)
-    print(f"{right} passed, {wrong} failed")
-    return 1 if wrong else 0
-
-
-if __name__ == "__main__":
-    sys.exit(main(sys.argv[1:]))
+        runs = running.Runs(running.programs(given, "rpki_verify")["rpki_verify"], room)
+        runs.is_terse = True
+        for name, files, words, wanted in [*cases(room), ("examples/", {}, *EXAMPLE)]:
+            if not given.words or any(it in name for it in given.words):
+                runs.lay(files)
+                runs.judge(name, runs.ran(words, cwd=TOP), wanted)
+    return runs.end()

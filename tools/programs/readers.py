@@ -1,45 +1,34 @@
-#!/usr/bin/env python3
-"""Loads what `rpki_verify payloads` prints in each format by a reader of it, and compares the origins
-that it has, and the ASPAs.
+"""Loads what `rpki_verify payloads` prints in each format by a reader of it, and compares the origins and the ASPAs.
 
-    tools/payload_readers.py [PROGRAM]
+    tools/program readers [--unproved | --in FOLDER]
 
-PROGRAM is crates/rpki_verify/out/rpki_verify unless it is given. A tree of tools/payload_trees.py is
-asked for at the moment of the clock, under two locators of one key, with and without local exceptions
-(tools/local_exceptions.py).
+A tree of tree_rows.py is asked for at the moment of the clock, under two locators of one key, with and without local
+exceptions (exceptions.py).
 
     lines, csv, json, rpki-client     read by Python; lines with --long too
     json, rpki-client                 served by StayRTR, and asked for by `rtrclient` of rtr-tools
     bird                              `bird -p`, and a running BIRD 2 that is asked by `birdc`
     openbgpd                          `bgpd -n -v`, which prints what it read
 
-ASPAs are compared where Python reads lines or JSON, and where `bgpd` reads them. OpenBGPD before 7.8 knows
-no `aspa-set`: there, what stands from it on is cut off before, and its ASPAs are LEFT OUT.
+ASPAs are compared where Python reads lines or JSON, and where `bgpd` reads them. OpenBGPD before 7.8 knows no
+`aspa-set`: there, what stands from it on is cut off before, and its ASPAs are LEFT OUT.
 
-Prints a line for each reader that has other origins or refuses a text, and for each that is not there
-(LEFT OUT), and at last how many passed and failed. The status is 0 where all passed. Needs `openssl` 3,
-which tests the keys.
+Prints a line for each reader that has other payloads or refuses a text, and for each that is not there (LEFT OUT).
+Needs `openssl` 3, which tests the keys.
 """
 import csv
 import io
 import json
-import os
-import pathlib
 import re
 import shutil
 import socket
 import subprocess
-import sys
 import tempfile
 import time
 
-sys.dont_write_bytecode = True
-import local_exceptions  # noqa: E402
-from payload_trees import Tree  # noqa: E402
-from unproved import ROOM  # noqa: E402
-from verify_words import words  # noqa: E402
-
-PROGRAM = pathlib.Path(__file__).resolve().parent.parent / "crates/rpki_verify/out/rpki_verify"
+from programs import exceptions, running
+from programs.tree_rows import Tree
+from verify_words import words
 
 COLUMNS = ["ASN", "IP Prefix", "Max Length", "Trust Anchor", "Expires"]
 BIRD = "router id 192.0.2.1;\nprotocol device {}\n"
@@ -187,73 +176,63 @@ def knows_aspas():
 
 # The readers of each format, and the programs that they need.
 READERS = {
-    "lines": [(of_lines,)], "--long": [(of_lines,)], "csv": [(of_csv,)], "json": [(of_json,), (of_router, "stayrtr", "rtrclient")],
+    "lines": [(of_lines,)], "--long": [(of_lines,)], "csv": [(of_csv,)],
+    "json": [(of_json,), (of_router, "stayrtr", "rtrclient")],
     "rpki-client": [(of_json,), (of_router, "stayrtr", "rtrclient")], "bird": [(of_bird, "bird", "birdc")],
     "openbgpd": [(of_openbgpd, "bgpd")]}
 ASPA_READERS = {
-    "lines": [(aspas_of_lines,)], "--long": [(aspas_of_lines,)], "json": [(aspas_of_json,)], "rpki-client": [(aspas_of_json,)],
+    "lines": [(aspas_of_lines,)], "--long": [(aspas_of_lines,)], "json": [(aspas_of_json,)],
+    "rpki-client": [(aspas_of_json,)],
     "openbgpd": [(aspas_of_openbgpd, "bgpd")]}
 
 
-def judged(printed, wanted, readers=READERS):
-    """Of each reader of these texts, `{format: octets}`, what is wrong where it has other payloads, or
-    one twice; else nothing."""
+def judge(runs, printed, wanted, readers):
+    """Judges what each reader of these texts, `{format: octets}`, has."""
     for name, octets in printed.items():
         for reader, *needed in readers.get(name, ()):
             lacking = [it for it in needed if not shutil.which(it)]
             if lacking:
                 print(f"{name}: LEFT OUT, as there is no {lacking[0]}")
-                continue
-            if reader is aspas_of_openbgpd and not knows_aspas():
+            elif reader is aspas_of_openbgpd and not knows_aspas():
                 print(f"{name}: LEFT OUT the ASPAs, which OpenBGPD knows since 7.8")
-                continue
-            try:
-                got = reader(octets)
-            except (ValueError, KeyError) as error:
-                yield f"{name}: {reader.__name__}: refused: {error}"
-                continue
-            yield "" if got == wanted else f"{name}: {reader.__name__}: other payloads: {got} for {wanted}"
+            else:
+                try:
+                    got = reader(octets)
+                except (ValueError, KeyError) as error:
+                    got = f"refused: {error}"
+                runs.judge(f"{name}: {reader.__name__}", got, wanted)
 
 
-def all_of_them(program):
-    """The same of what the program prints under two locators that say the same, with and without local
-    exceptions."""
-    tree = Tree()
-    for file, number, prefixes in (("least.roa", 0, ["10.1.2.0/24-32", "10.1.255.255/32"]), ("most.roa", 4294967295, ["2001:db8:1::/64-128"])):
-        tree.a.add_roa(file, number, prefixes)
+def tree():
+    """A tree with the least and the greatest numbers and lengths, and its origins and pairs."""
+    made = Tree()
+    for file, number, prefixes in (("least.roa", 0, ["10.1.2.0/24-32", "10.1.255.255/32"]),
+                                   ("most.roa", 4294967295, ["2001:db8:1::/64-128"])):
+        made.a.add_roa(file, number, prefixes)
         for prefix, _, most in (it.partition("-") for it in prefixes):
-            tree.found["one"].append(("origin", number, prefix, int(most or prefix.split("/")[1]), ""))
-    text = local_exceptions.made(filters=[{"asn": 65002}], assertions=local_exceptions.ASSERTIONS)
-    with tempfile.TemporaryDirectory(prefix="payloads-") as room:
-        files = {f"copy/{path}": octets for path, octets in tree.written().items()}
-        files |= {"one.tal": tree.tals["one.tal"], "again.tal": tree.tals["one.tal"], "exceptions.json": text.encode()}
-        for path, octets in files.items():
-            path = pathlib.Path(room, path)
-            path.parent.mkdir(parents=True, exist_ok=True)
-            path.write_bytes(octets)
-        origins = [(number, prefix, most or int(prefix.split("/")[1])) for kind, number, prefix, most, _ in
-                   (it for it in tree.found["one"] if it[0] == "origin")]
-        pairs = [(customer, it) for kind, customer, several, *_ in tree.found["one"] if kind == "aspa" for it in several]
+            made.found["one"].append(("origin", number, prefix, int(most or prefix.split("/")[1]), ""))
+    origins = [origin(*it[1:4]) for it in made.found["one"] if it[0] == "origin"]
+    return made, origins, [pair(it[1], provider) for it in made.found["one"] if it[0] == "aspa" for provider in it[2]]
+
+
+def main(words):
+    program = running.programs(running.reader().parse_args(words), "rpki_verify")["rpki_verify"]
+    made, origins, pairs = tree()
+    text = exceptions.made(filters=[{"asn": 65002}], assertions=exceptions.ASSERTIONS)
+    with tempfile.TemporaryDirectory(prefix="readers-") as room:
+        runs = running.Runs(program, room)
+        runs.is_terse = True
+        runs.lay({f"copy/{path}": octets for path, octets in made.written().items()})
+        runs.lay({"one.tal": made.tals["one.tal"], "again.tal": made.tals["one.tal"], "exceptions.json": text.encode()})
         for slurm in None, "exceptions.json":
-            wanted = [*map(sorted, local_exceptions.after(origins, pairs, *[text] * bool(slurm)))]
-            printed = {it: said_in(program, room, it, slurm) for it in READERS}
-            yield from judged(printed, wanted[0])
-            yield from judged(printed, wanted[1], ASPA_READERS)
+            left, pairs_left = map(sorted, exceptions.after(origins, pairs, *[text] * bool(slurm)))
+            printed = {it: runs.ran(asked(it, slurm))[1] for it in READERS}
+            judge(runs, printed, left, READERS)
+            judge(runs, printed, pairs_left, ASPA_READERS)
+    return runs.end()
 
 
-def said_in(program, room, form, slurm):
-    """What the program prints in a format, or with an option."""
-    asked = {"options": [form]} if form.startswith("-") else {"format": form}
-    return subprocess.run([program, *words("payloads", "copy", "one.tal", "again.tal", slurm=slurm, **asked)], cwd=room,
-                          env=os.environ | ROOM, stdout=subprocess.PIPE, check=False).stdout
-
-
-def main(given):
-    found = [*all_of_them(os.path.abspath((given or [PROGRAM])[0]))]
-    wrong = [it for it in found if it]
-    print("\n".join([*wrong, f"{len(found) - len(wrong)} passed, {len(wrong)} failed"]))
-    return 1 if wrong else 0
-
-
-if __name__ == "__main__":
-    sys.exit(main(sys.argv[1:]))
+def asked(form, slurm):
+    """The words that ask for a format, or with an option."""
+    given = {"options": [form]} if form.startswith("-") else {"format": form}
+    return words("payloads", "copy", "one.tal", "again.tal", slurm=slurm, **given)

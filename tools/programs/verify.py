@@ -1,32 +1,27 @@
-#!/usr/bin/env python3
-"""Runs the built program rpki_verify over the tree of examples/, and compares each answer.
+"""Runs rpki_verify over the tree of examples/, and compares each answer with what its contract and its documents say.
 
-    tools/verify_runs [PROGRAM [OBJECTS]]   with what its contract and its documents say
-    tools/verify_runs --client [PROGRAM]    with what `rpki-client -f` says of the same objects
+    tools/program verify [--unproved | --in FOLDER]
+    tools/program verify --client ..    with what `rpki-client -f` says of the same objects
 
-PROGRAM is crates/rpki_verify/out/rpki_verify unless it is given, and OBJECTS, which the examples of
-the pages need, crates/rpki_objects/out/rpki_objects; `rt run` in these crates leaves them there. Each
-exit status, and which of the two streams says what, of each command; the lists of good signatures
-beside those of examples/; checks and shows of one file and of several, in lines and in JSON; what a
-folder has of the files of a manifest or a checklist; payloads in each format, and after local
-exceptions (local_exceptions.py); the moment `now` beside the same moment as a word; changed octets of a
-signature; a folder, a FIFO, a pipe and a device as the file; each entry as soon as its file is done; names of files with spaces, long, not in
-ASCII; streams that are full or closed; standard input in the place of each file, where it is a file,
-comes in pieces, is large, or can't be read; each allocation refused in turn (tools/refuse_growth.c, with
-a C compiler as `cc` or $CC); the examples of the pages, by both programs, and the completion for bash
-(tools/page_runs; the examples of README.md where both are of tools/try); and files that are
-large or change while they are read, as in tools/runs. Whatever is printed as JSON is read again: it is
-UTF-8, no object has a name twice, and of a check or a show each file has one line (json_members.py).
-What is said to words that ask for nothing is in rows/verify_usage.jsonl, and explain in explain_rows.py.
+Each exit status, and which of the two streams says what, of each command; the lists of good signatures beside those of
+examples/; checks and shows of one file and of several, in lines and in JSON; what a folder has of the files of a
+manifest or a checklist; payloads in each format, and after local exceptions (exceptions.py); the moment `now`
+beside the same moment as a word; changed octets of a signature; a folder, a FIFO, a pipe and a device as the file;
+each entry as soon as its file is done; names of files with spaces, long, not in ASCII; streams that are full or
+closed; standard input in the place of each file, where it is a file, comes in pieces, is large, or can't be read; each
+allocation refused in turn; the examples of the pages, by both programs, and the completion for bash (`tools/program
+pages`); and files that are large or change while they are read, as of `tools/program runs`. Whatever is printed as
+JSON is read again: it is UTF-8, no object has a name twice, and of a check or a show each file has one line
+(json_members.py). What is said to words that ask for nothing is in rows/verify_usage.jsonl, and explain in
+`tools/program explain`.
 
-rpki-client has to be on the path, and to be of OpenBSD's portable release 8.2 or later. It judges
-one file without a network where the tree lies below its cache and the certificate of the trust
-anchor at ta/NAME in it (`-n -d CACHE -t TAL -f FILE`); it judges at the moment of the clock.
-providers.asa is not compared, since release 8.2 knows an older form of ASPAs, and refuses it.
+rpki-client has to be on the path, and to be of OpenBSD's portable release 8.2 or later. It judges one file without a
+network where the tree lies below its cache and the certificate of the trust anchor at ta/NAME in it (`-n -d CACHE -t
+TAL -f FILE`); it judges at the moment of the clock. providers.asa is not compared, since release 8.2 knows an older
+form of ASPAs, and refuses it.
 
-Prints a line for each run, and at last how many passed and failed. The status is 0 where all were as
-wanted, 1 where one was not, and 2 where they cannot be run. Without a C compiler no allocation is
-refused. Needs `openssl` 3, which tests the keys of what is made here.
+Prints a line for each run. Without a C compiler no allocation is refused. Needs `openssl` 3, which tests the keys of
+what is made here.
 """
 import datetime
 import hashlib
@@ -35,33 +30,27 @@ import re
 import select
 import shutil
 import subprocess
-import sys
 import tempfile
 import threading
 import time
 
-TOOLS = os.path.dirname(os.path.realpath(__file__))
-sys.dont_write_bytecode = True
-sys.path.insert(0, TOOLS)
-import example_files  # noqa: E402
-import json_members  # noqa: E402
-import local_exceptions  # noqa: E402
-import verify_words  # noqa: E402
-from payload_formats import WRITERS, as_csv, as_json, as_lines, compact  # noqa: E402
-from payload_readers import of_lines  # noqa: E402
-from payload_trees import EXAMPLES, EXAMPLES_REFUSED  # noqa: E402
-from unproved import KEPT, PROGRAMS, tool  # noqa: E402
+import example_files
+import json_members
+import publication
+import verify_words
+from commands import stop
+from crates import TOP
+from programs import exceptions as slurm, made, pages, running, strains, tree_rows
+from programs.formats import WRITERS, as_csv, as_json, as_lines, compact
+from programs.made import BROKEN, CHAIN, EXPIRED, ORIGIN, octets_of
+from programs.running import OUT_OF_MEMORY
+from programs.readers import of_lines
+from programs.strains import MALFORMED, NO_ISSUER, refused
+from programs.tree_rows import EXAMPLES, EXAMPLES_REFUSED
 
-PROGRAM, OBJECTS = (f"{os.path.dirname(TOOLS)}/crates/{it}/out/{it}" for it in PROGRAMS)
-# (its rows of examples/ and its ways to run a program are used here)
-runs = tool("runs")
-CHAIN = f"{runs.PUBLISHED}/anchor.cer", f"{runs.PUBLISHED}/anchor/authority.cer"
+AGREEMENT = made.AGREEMENT
 MOMENT = "20270101000000Z"
-ORIGIN = f"{runs.AUTHORITY}/origin.roa"
-BROKEN = f"{runs.AUTHORITY}/broken.roa"
-EXPIRED = f"{runs.AUTHORITY}/expired.roa"
-AGREEMENT = f"{runs.EXAMPLES}/agreement.rta"
-HOLDING = f"{runs.EXAMPLES}/holding.rta"
+HOLDING = f"{made.EXAMPLES}/holding.rta"
 # As `openssl` and `hashlib` have it.
 HOLDING_LINES = b"""rta
 key AC15A9E2F05691301C257BFEF6649F3AB7437791
@@ -70,8 +59,8 @@ v4 198.51.100.0/25
 v6 2001:db8:100::/40
 digest b741afb9d0a049d038fd25548bdd5994720cabd116046ab09d813c6f1ea31257
 """
-ANCHORS = f"tal={runs.EXAMPLES}/second.tal", f"ca={':'.join(CHAIN)}"
-OPTIONS = [it.decode() for it in runs.OPTIONS]
+ANCHORS = f"tal={made.EXAMPLES}/second.tal", f"ca={':'.join(CHAIN)}"
+OPTIONS = [*made.OPTIONS]
 ATTESTATIONS = (
     ("agreement.rta", (0, b"""yes
 rta
@@ -85,9 +74,9 @@ v6 2001:db8:100::/40
 v6 3fff::/24
 digest 27b1475ecc05bc4bbfc386c70f7bd74b99e7926da240c1e439a00700fdb4a9f2
 """, b"")),
-    ("broken.rta", runs.refused(b"missing certificate")),
-    ("overclaiming.rta", runs.refused(b"IP resources not fully covered")),
-    ("revoked.rta", runs.refused(b"CA certificate has been revoked")),
+    ("broken.rta", refused(b"missing certificate")),
+    ("overclaiming.rta", refused(b"IP resources not fully covered")),
+    ("revoked.rta", refused(b"CA certificate has been revoked")),
 )
 # As `openssl x509 -text -serial` and `openssl crl -text -crlnumber` have it.
 ISSUED = {
@@ -146,9 +135,9 @@ def not_issued(issuer, file, other):
     return verify_words.not_issued(*issuer[:2], file, other[0]).encode()
 
 
-NOT_ISSUED = runs.refused(not_issued(CA_KEY, CHAIN[0], ANCHOR_KEY))
+NOT_ISSUED = refused(not_issued(CA_KEY, CHAIN[0], ANCHOR_KEY))
 REFUSED = ((BROKEN, b"signature is not valid"), (EXPIRED, b"certificate has expired"),
-           (runs.OVERCLAIMING, runs.OVERCLAIMED + b": 203.0.113.0/24 is not in " + os.fsencode(CHAIN[1])))
+           (made.OVERCLAIMING, made.OVERCLAIMED + b": 203.0.113.0/24 is not in " + os.fsencode(CHAIN[1])))
 
 
 def unreadable(name, why=b"no such file"):
@@ -156,18 +145,18 @@ def unreadable(name, why=b"no such file"):
     return 4, b"", b"cannot read " + name + (why and b": " + why) + b"\n"
 
 
-class Verify(runs.Runs):
+class Verify(strains.Strained):
     """Runs of the program, which tells why a file can't be read, and prints JSON."""
 
     words, cut = [b"show", b"--kind", b"roa", b"--"], EARLY_END
 
-    def __init__(self, program, objects, room):
-        super().__init__(program, room)
-        self.objects, self.texts = objects, 0
+    def __init__(self, programs, room):
+        super().__init__(programs["rpki_verify"], room)
+        self.programs, self.texts = programs, 0
         # How many prefixes, files or serial numbers a long object or list has.
         self.many = 1_000_000 if self.is_plain else 100_000
         self.octets, self.shown = octets_of(ORIGIN), (0, whole_lines(0), b"")
-        runs.write(room, b"content", self.octets)
+        self.write("content", self.octets)
 
     def unreadable(self, _name, why=b"no such file"):
         """What is said of a file that is to be shown or checked, and that can't be read."""
@@ -180,7 +169,7 @@ class Verify(runs.Runs):
         if words[:1] and words[0] in (b"check", b"files", b"rta") and b"--help" not in words and status in (0, 1, 4):
             is_yes = says_yes(out)
             if is_yes != (status == 0):
-                self.wrong += 1
+                self.failed += 1
                 print(f"{b' '.join(words)!r}: WRONG: the status {status} with {out[:200]!r}", flush=True)
         if {b"--json", b"json", b"rpki-client"} & {*words} and status in (0, 1) and out:
             read = json_members.value_of if b"payloads" in words else json_members.values_of
@@ -188,7 +177,7 @@ class Verify(runs.Runs):
             try:
                 read(out)
             except ValueError as why:
-                self.wrong += 1
+                self.failed += 1
                 print(f"JSON of {b' '.join(words)!r}: WRONG: {why}: {out[:200]!r}", flush=True)
         return status, out, err
 
@@ -213,7 +202,7 @@ def show_words(*files, **values):
     return words_of("show", *files, **values)
 
 
-def files_words(file=runs.MANIFEST, folder=runs.AUTHORITY, chain=CHAIN, at=MOMENT, **values):
+def files_words(file=made.MANIFEST, folder=made.AUTHORITY, chain=CHAIN, at=MOMENT, **values):
     return words_of("files", file, folder, chain=chain, at=at, **values)
 
 
@@ -238,11 +227,6 @@ def named_refusal(file, cause):
     return 1, b"issuer refused: " + os.fsencode(file) + b": " + cause + b"\n", b""
 
 
-def octets_of(file):
-    with open(file, "rb") as it:
-        return it.read()
-
-
 def told():
     """The moment of the clock, as a word."""
     return datetime.datetime.now(datetime.timezone.utc).strftime("%Y%m%d%H%M%SZ")
@@ -256,108 +240,87 @@ def marked(moment):
 def answers(here):
     """What checks say of one object, and of several, whatever is wrong with it."""
     every = []
-    for kind, file, lines, _ in runs.OBJECTS:
-        name, yes, other = os.path.basename(file), (0, b"yes\n" + lines, b""), "aspa" if kind == b"roa" else "roa"
+    for kind, file, lines, _ in made.OBJECTS:
+        name, yes, other = os.path.basename(file), (0, b"yes\n" + lines, b""), "aspa" if kind == "roa" else "roa"
         every.append((file, yes[1]))
-        for at in (MOMENT, marked(MOMENT), "now", None):
-            here.judge(f"check {name} at {at}", here.ran(check_words(file, at=at)), yes)
-        for what, words, wanted in (
-            ("with its kind", check_words(file, kind=kind), yes), ("after --", check_words("--", file), yes),
-            ("each option", check_words(file, options=OPTIONS), yes),
-            ("options after it", [*check_words(file), b"--wide", b"--relaxed", b"--wide"], yes),
-            ("as another kind", check_words(file, kind=other), ANOTHER_KIND),
-            ("under the trust anchor alone", check_words(file, chain=CHAIN[:1]), NOT_ISSUED),
-        ):
-            here.judge(f"check {name}, {what}", here.ran(words), wanted)
+        here.each(*((check_words(file, at=at), yes) for at in (MOMENT, marked(MOMENT), "now", None)))
+        here.each((check_words(file, kind=kind), yes), (check_words("--", file), yes),
+                  (check_words(file, options=OPTIONS), yes),
+                  ([*check_words(file), b"--wide", b"--relaxed", b"--wide"], yes),
+                  (check_words(file, kind=other), ANOTHER_KIND), (check_words(file, chain=CHAIN[:1]), NOT_ISSUED))
     for file, cause in REFUSED:
-        here.judge(f"check {file}", here.ran(check_words(file)), runs.refused(cause))
+        here.each((check_words(file), refused(cause)))
         every.append((file, b"refused: " + cause + b"\n"))
-    runs.write(here.room, b"none.roa", b"")
+    here.write("none.roa", b"")
     every += [every[0], ("none.roa", EARLY_END[1])]
     for some in (every[:4], every[:5], every[4:6], every):
         files, said = [file for file, _ in some], b"".join(entry(*it) for it in some)
         status = 0 if len(some) == 4 else 1
-        here.judge(f"check {len(some)} files", here.ran(check_words(*files)), (status, said, b""))
+        here.each((check_words(*files), (status, said, b"")))
     some = [every[0], (CHAIN[0], b"malformed\n"), every[-1]]
-    here.judge("check --kind roa, files that are none", here.ran(check_words(*(file for file, _ in some), kind="roa")),
-               (1, b"".join(entry(*it) for it in some), b""))
+    here.each((check_words(*(file for file, _ in some), kind="roa"), (1, b"".join(entry(*it) for it in some), b"")))
 
 
 def held_by(here):
     """What folders have of the files that a manifest or a checklist lists."""
-    held = b"".join(b"held " + os.fsencode(it) + b"\n" for it in runs.AUTHORITY_FILES)
-    letter = f"{runs.EXAMPLES}/letter.sig"
+    held = b"".join(b"held " + os.fsencode(it) + b"\n" for it in made.AUTHORITY_FILES)
+    letter = f"{made.EXAMPLES}/letter.sig"
     for folder, files in (("few", {"origin.roa": b"", "x.roa": b"", "authority.mft": b""}),
-                          ("letters", {"letter.txt": b"a letter\n", "any": b"no name\n"}), ("letter", {"letter.txt": b""}),
+                          ("letters", {"letter.txt": b"a letter\n", "any": b"no name\n"}),
+                          ("letter", {"letter.txt": b""}),
                           ("odd", {"\udcff": b"", "\udcfe.roa": b""})):
         os.mkdir(f"{here.room}/{folder}")
         for name, octets in files.items():
-            runs.write(here.room, os.fsencode(f"{folder}/{name}"), octets)
+            here.write(f"{folder}/{name}", octets)
     missing = re.sub(rb"^held", b"missing", held, flags=re.M)
     lacking = missing.replace(b"missing origin", b"differs origin")
     no_texts = b"files not read, since their names are not UTF-8: 2\n"
-    for what, words, wanted in (
-        ("all are held", files_words(), (0, b"yes\nmanifest\n" + held, b"")),
-        ("now, with each option", files_words(at="now", options=OPTIONS), (0, b"yes\nmanifest\n" + held, b"")),
-        ("names that are no text", files_words(folder="odd"),
-         (1, b"no\nmanifest\n" + missing + no_texts, b"")),
-        ("names that are no text, and a checklist", files_words(letter, "odd"),
-         (1, b"no\nrsc\nmissing letter.txt\nmissing " + NO_NAME + b"\n" + no_texts, b"")),
-        ("few are there", files_words(folder="few"), (1, b"no\nmanifest\n" + lacking + b"unlisted x.roa\n", b"")),
-        ("in JSON", files_words(options=["--json"]), in_json_line(runs.MANIFEST, "manifest", True, held)),
-        ("few in JSON", files_words(folder="few", options=["--json"]),
-         in_json_line(runs.MANIFEST, "manifest", False, lacking + b"unlisted x.roa\n")),
-        ("a checklist", files_words(letter, "letters"), (0, b"yes\nrsc\nheld letter.txt\nheld %s\n" % NO_NAME, b"")),
-        ("one of another file", files_words(letter, "letter"),
-         (1, b"no\nrsc\ndiffers letter.txt\nmissing %s\n" % NO_NAME, b"")),
-        ("no folder", files_words(folder="none"), (4, b"", b"no such folder: none\n")),
-        ("no object", files_words("none.mft"), unreadable(b"none.mft")),
-        ("a ROA", files_words(ORIGIN), (2, b"", b"no manifest and no checklist: " + os.fsencode(ORIGIN) + b"\n")),
-        ("under the trust anchor alone", files_words(chain=CHAIN[:1]), NOT_ISSUED),
-        ("no issuer", files_words(chain=[ORIGIN]), named_refusal(ORIGIN, b"malformed")),
-        ("no list", files_words(crl=ORIGIN), (2, b"", b"bad list " + os.fsencode(ORIGIN) + b"\n")),
-    ):
-        here.judge(f"files, {what}", here.ran(words), wanted)
+    here.each((files_words(), (0, b"yes\nmanifest\n" + held, b"")),
+              (files_words(at="now", options=OPTIONS), (0, b"yes\nmanifest\n" + held, b"")),
+              (files_words(folder="odd"), (1, b"no\nmanifest\n" + missing + no_texts, b"")),
+              (files_words(letter, "odd"),
+               (1, b"no\nrsc\nmissing letter.txt\nmissing " + NO_NAME + b"\n" + no_texts, b"")),
+              (files_words(folder="few"), (1, b"no\nmanifest\n" + lacking + b"unlisted x.roa\n", b"")),
+              (files_words(options=["--json"]), in_json_line(made.MANIFEST, "manifest", True, held)),
+              (files_words(folder="few", options=["--json"]),
+               in_json_line(made.MANIFEST, "manifest", False, lacking + b"unlisted x.roa\n")),
+              (files_words(letter, "letters"), (0, b"yes\nrsc\nheld letter.txt\nheld %s\n" % NO_NAME, b"")),
+              (files_words(letter, "letter"), (1, b"no\nrsc\ndiffers letter.txt\nmissing %s\n" % NO_NAME, b"")),
+              (files_words(folder="none"), (4, b"", b"no such folder: none\n")),
+              (files_words("none.mft"), unreadable(b"none.mft")),
+              (files_words(ORIGIN), (2, b"", b"no manifest and no checklist: " + os.fsencode(ORIGIN) + b"\n")),
+              (files_words(chain=CHAIN[:1]), NOT_ISSUED),
+              (files_words(chain=[ORIGIN]), named_refusal(ORIGIN, b"malformed")),
+              (files_words(crl=ORIGIN), (2, b"", b"bad list " + os.fsencode(ORIGIN) + b"\n")))
 
 
 def lists(here):
     """The list of the good signatures of each object, and of one that has a signature less."""
-    files = [file for _, file, _, _ in runs.OBJECTS] + [runs.OVERCLAIMING, EXPIRED]
+    files = [file for _, file, _, _ in made.OBJECTS] + [made.OVERCLAIMING, EXPIRED]
     for file in files:
-        wanted = 0, octets_of(f"{runs.EXAMPLES}/{os.path.basename(file)}.verdicts"), b""
-        for options in ([], OPTIONS):
-            here.judge(f"verdicts {file} {options}", here.ran(list_words(file, options=options)), wanted)
-    lines = octets_of(f"{runs.EXAMPLES}/broken.roa.verdicts").splitlines(keepends=True)
-    here.judge(f"verdicts {BROKEN}", here.ran(list_words(BROKEN)), (0, b"".join(lines[:3]), b""))
-    here.judge("verdicts of a certificate", here.ran(list_words(CHAIN[0])), runs.MALFORMED)
-    here.judge("verdicts under an object", here.ran(list_words(ORIGIN, [ORIGIN])), runs.NO_ISSUER)
-    here.judge("verdicts under a file that is not there",
-               here.ran(list_words(ORIGIN, [*CHAIN, "none"])), unreadable(b"none"))
+        wanted = 0, octets_of(f"{made.EXAMPLES}/{os.path.basename(file)}.verdicts"), b""
+        here.each(*((list_words(file, options=options), wanted) for options in ([], OPTIONS)))
+    lines = octets_of(f"{made.EXAMPLES}/broken.roa.verdicts").splitlines(keepends=True)
+    here.each((list_words(BROKEN), (0, b"".join(lines[:3]), b"")), (list_words(CHAIN[0]), MALFORMED),
+              (list_words(ORIGIN, [ORIGIN]), NO_ISSUER), (list_words(ORIGIN, [*CHAIN, "none"]), unreadable(b"none")))
 
 
 def attestations(here):
     """What is said of each attestation, and the list of its good signatures."""
     for name, wanted in ATTESTATIONS:
-        file = f"{runs.EXAMPLES}/{name}"
-        for at in (MOMENT, marked(MOMENT), "now", None):
-            here.judge(f"rta {file}, {at}", here.ran(rta_words(file, at=at)), wanted)
+        file = f"{made.EXAMPLES}/{name}"
+        here.each(*((rta_words(file, at=at), wanted) for at in (MOMENT, marked(MOMENT), "now", None)))
         there = octets_of(file)
         digests = {hashlib.sha256(there[at:at + 256]).hexdigest() for at in range(len(there))}
         lines = octets_of(f"{file}.verdicts").splitlines(keepends=True)
         good = lines[:2] + [it for it in lines[2:] if it.split()[2].decode() in digests]
-        here.judge(f"verdicts of {file}", here.ran(rta_list_words(file)), (0, b"".join(good), b""))
+        here.each((rta_list_words(file), (0, b"".join(good), b"")))
     under = f"ca={ORIGIN}"
-    for anchor in ANCHORS:
-        here.judge(f"rta under {anchor!r} alone", here.ran(rta_words(AGREEMENT, anchor)),
-                   runs.refused(b"RTA could not be validated"))
-    for what, words, wanted in (
-        ("rta under an object", rta_words(AGREEMENT, under), named_refusal(ORIGIN, b"malformed")),
-        ("rta under a locator that is none", rta_words(AGREEMENT, f"tal={ORIGIN}"), no_locator(ORIGIN)),
-        ("rta under a locator that is not there", rta_words(AGREEMENT, "tal=none"), unreadable(b"none")),
-        ("verdicts of an object under anchors", rta_list_words(ORIGIN), runs.MALFORMED),
-        ("verdicts of an attestation under an object", rta_list_words(AGREEMENT, under), runs.NO_ISSUER),
-    ):
-        here.judge(what, here.ran(words), wanted)
+    here.each(*((rta_words(AGREEMENT, anchor), refused(b"RTA could not be validated")) for anchor in ANCHORS))
+    here.each((rta_words(AGREEMENT, under), named_refusal(ORIGIN, b"malformed")),
+              (rta_words(AGREEMENT, f"tal={ORIGIN}"), no_locator(ORIGIN)),
+              (rta_words(AGREEMENT, "tal=none"), unreadable(b"none")), (rta_list_words(ORIGIN), MALFORMED),
+              (rta_list_words(AGREEMENT, under), NO_ISSUER))
 
 
 def no_locator(file):
@@ -368,11 +331,10 @@ def no_locator(file):
 def revocation_lists(room):
     """Lists of both CAs: those that are published, which revoke nothing, and one of the trust anchor
     that revokes its CA."""
-    import publication
     key = publication.signer("anchor")
     with open(f"{room}/late.crl", "wb") as it:
         it.write(publication.crl(key, publication.SIGNED, publication.PAST, [2], key))
-    return f"{runs.PUBLISHED}/anchor/anchor.crl", f"{runs.AUTHORITY}/authority.crl"
+    return f"{made.PUBLISHED}/anchor/anchor.crl", f"{made.AUTHORITY}/authority.crl"
 
 
 def keyless(room, authority):
@@ -389,80 +351,56 @@ def given_words(*lists, files=(ORIGIN,), **values):
 
 def each_settings(here):
     """What locators, revocation lists and certificates do to a check."""
-    yes = 0, b"yes\n" + runs.ORIGIN_LINES, b""
+    yes = 0, b"yes\n" + made.ORIGIN_LINES, b""
     anchor, authority = CHAIN
     own, other = TALS
-    empty, revoking = revocation_lists(here.room), f"{runs.EXAMPLES}/revoking.crl"
-    revoked = runs.refused(b"revoked by " + os.fsencode(revoking))
+    empty, revoking = revocation_lists(here.room), f"{made.EXAMPLES}/revoking.crl"
+    revoked = refused(b"revoked by " + os.fsencode(revoking))
     bad_list = 2, b"", b"bad list " + os.fsencode(ORIGIN) + b"\n"
     bad_locator = no_locator(ORIGIN)
     other_key = named_refusal(anchor, b"key is not that of " + os.fsencode(other))
     late = named_refusal(authority, b"revoked by late.crl")
     keyless(here.room, authority)
-    for name, words, wanted in (
-        ("the locator", given_words(tal=own), yes),
-        ("another locator", given_words(tal=other), other_key),
-        ("no locator", given_words(tal=ORIGIN), bad_locator),
-        ("no locator, and no list", given_words(ORIGIN, tal=ORIGIN), bad_locator),
-        ("another locator, and no list", given_words(ORIGIN, tal=other), bad_list),
-        ("lists that revoke nothing", given_words(*empty, tal=own), yes),
-        ("a list that revokes the object", given_words(*empty, revoking), revoked),
-        ("a list of another CA", given_words("late.crl", chain=CHAIN[:1]), NOT_ISSUED),
-        ("lists of no CA", given_words(revoking, "late.crl", empty[1], files=(TALS[0],), chain=CHAIN[:1]),
-         (0, b"yes\n" + TAL_LINES, b"".join(b"no CA for list %s\n" % os.fsencode(it) for it in (revoking, empty[1])))),
-        ("lists that revoke a CA and the object", given_words(revoking, "late.crl"), late),
-        ("no list", given_words(*empty, ORIGIN, revoking), bad_list),
-        ("a list that revokes what is refused", given_words(revoking, files=(BROKEN,)),
-         runs.refused(b"signature is not valid")),
-        ("a list that is not there", given_words("none"), unreadable(b"none")),
-        ("a locator that is not there", given_words(tal="none"), unreadable(b"none")),
-        ("a file that is not there", given_words(files=(ORIGIN, "none.mft")),
-         (4, entry(ORIGIN, yes[1]) + entry("none.mft", here.unreadable("none.mft")[1]), b"")),
-        ("files that are not there", given_words("no.crl", files=("no.roa",), tal="no.tal"),
-         unreadable(b"no.tal")),
-        ("a certificate that is none", given_words(chain=[anchor, ORIGIN]),
-         named_refusal(ORIGIN, b"malformed")),
-        ("a trust anchor that is none", given_words(chain=[ORIGIN]),
-         named_refusal(ORIGIN, b"malformed")),
-        ("a certificate without its identifier", given_words(chain=[anchor, "keyless.cer"]),
-         named_refusal("keyless.cer", b"malformed: subjectKeyIdentifier is missing")),
-        ("a CA twice", given_words(chain=[*CHAIN, authority]),
-         named_refusal(authority, not_issued(ANCHOR_KEY, authority, CA_KEY))),
-        ("too early", given_words(at="2025-12-31T23:59:59Z"),
-         named_refusal(anchor, b"certificate is not yet valid")),
-        ("too late, and another locator", given_words(at="20400101000001Z", tal=other),
-         named_refusal(anchor, b"certificate has expired")),
-        ("when it was good", given_words(files=(EXPIRED,), at="2026-05-01T00:00:00Z"), yes),
-        ("the certificate of the CA", given_words(files=(authority,), chain=CHAIN[:1]),
-         (0, b"yes\n" + ISSUED["anchor/authority.cer"], b"")),
-        ("that of a CA that is revoked", given_words("late.crl", files=(authority,), chain=CHAIN[:1]),
-         runs.refused(b"revoked by late.crl")),
-        ("the certificate of another CA", given_words(files=(authority,)),
-         runs.refused(not_issued(ANCHOR_KEY, authority, CA_KEY))),
-        ("one without its identifier", given_words(files=("keyless.cer",)),
-         (1, b"malformed: subjectKeyIdentifier is missing\n", b"")),
-        ("the list of the CA", given_words(files=empty[1:]), (0, b"yes\ncrl\n", b"")),
-        ("a list of the CA above", given_words(files=empty[:1]),
-         runs.refused(b"authority key identifier is not the issuer's")),
-        ("a list that is late", given_words(files=("late.crl",), chain=CHAIN[:1]),
-         runs.refused(b"stale: nextUpdate 2026-12-01T00:00:00Z")),
-        ("a list that is early", given_words(files=empty[1:], at="20261031000000Z"),
-         runs.refused(b"not yet current: thisUpdate 2026-11-01T00:00:00Z")),
-        ("the locator of another trust anchor", given_words(files=TALS[1:]),
-         runs.refused(b"the trust anchor has another key")),
-        ("what is no locator", given_words(files=(ORIGIN,), kind="tal"), runs.MALFORMED),
-    ):
-        here.judge(f"check, {name}", here.ran(words), wanted)
-    providers = runs.OBJECTS[1]
+    here.each((given_words(tal=own), yes), (given_words(tal=other), other_key), (given_words(tal=ORIGIN), bad_locator),
+              (given_words(ORIGIN, tal=ORIGIN), bad_locator), (given_words(ORIGIN, tal=other), bad_list),
+              (given_words(*empty, tal=own), yes), (given_words(*empty, revoking), revoked),
+              (given_words("late.crl", chain=CHAIN[:1]), NOT_ISSUED),
+              (given_words(revoking, "late.crl", empty[1], files=(TALS[0],), chain=CHAIN[:1]),
+               (0, b"yes\n" + TAL_LINES, f"no CA for list {revoking}\nno CA for list {empty[1]}\n".encode())),
+              (given_words(revoking, "late.crl"), late), (given_words(*empty, ORIGIN, revoking), bad_list),
+              (given_words(revoking, files=(BROKEN,)), refused(b"signature is not valid")),
+              (given_words("none"), unreadable(b"none")), (given_words(tal="none"), unreadable(b"none")),
+              (given_words(files=(ORIGIN, "none.mft")),
+               (4, entry(ORIGIN, yes[1]) + entry("none.mft", here.unreadable("none.mft")[1]), b"")),
+              (given_words("no.crl", files=("no.roa",), tal="no.tal"), unreadable(b"no.tal")),
+              (given_words(chain=[anchor, ORIGIN]), named_refusal(ORIGIN, b"malformed")),
+              (given_words(chain=[ORIGIN]), named_refusal(ORIGIN, b"malformed")),
+              (given_words(chain=[anchor, "keyless.cer"]),
+               named_refusal("keyless.cer", b"malformed: subjectKeyIdentifier is missing")),
+              (given_words(chain=[*CHAIN, authority]),
+               named_refusal(authority, not_issued(ANCHOR_KEY, authority, CA_KEY))),
+              (given_words(at="2025-12-31T23:59:59Z"), named_refusal(anchor, b"certificate is not yet valid")),
+              (given_words(at="20400101000001Z", tal=other), named_refusal(anchor, b"certificate has expired")),
+              (given_words(files=(EXPIRED,), at="2026-05-01T00:00:00Z"), yes),
+              (given_words(files=(authority,), chain=CHAIN[:1]), (0, b"yes\n" + ISSUED["anchor/authority.cer"], b"")),
+              (given_words("late.crl", files=(authority,), chain=CHAIN[:1]), refused(b"revoked by late.crl")),
+              (given_words(files=(authority,)), refused(not_issued(ANCHOR_KEY, authority, CA_KEY))),
+              (given_words(files=("keyless.cer",)), (1, b"malformed: subjectKeyIdentifier is missing\n", b"")),
+              (given_words(files=empty[1:]), (0, b"yes\ncrl\n", b"")),
+              (given_words(files=empty[:1]), refused(b"authority key identifier is not the issuer's")),
+              (given_words(files=("late.crl",), chain=CHAIN[:1]), refused(b"stale: nextUpdate 2026-12-01T00:00:00Z")),
+              (given_words(files=empty[1:], at="20261031000000Z"),
+               refused(b"not yet current: thisUpdate 2026-11-01T00:00:00Z")),
+              (given_words(files=TALS[1:]), refused(b"the trust anchor has another key")),
+              (given_words(files=(ORIGIN,), kind="tal"), MALFORMED))
+    providers = made.OBJECTS[1]
     said = entry(ORIGIN, revoked[1]) + entry(providers[1], b"yes\n" + providers[2])
-    here.judge("check, a list that revokes one of two",
-               here.ran(given_words(revoking, files=(ORIGIN, providers[1]))), (1, said, b""))
+    here.each((given_words(revoking, files=(ORIGIN, providers[1])), (1, said, b"")))
 
 
 def attestation_lists(room):
     """Lists of the CA: of the serial number of its customer, whose certificate the attestation
     carries, and of that of the holder, which the customer issued."""
-    import publication
     key = publication.signer("authority")
     for name, serial in (("customer", 8), ("holder", 5)):
         with open(f"{room}/{name}.crl", "wb") as it:
@@ -472,21 +410,20 @@ def attestation_lists(room):
 def each_attestations(here):
     """Attestations in checks: one chain anchors one of the two signers, or the only one."""
     yes = 0, b"yes\n" + HOLDING_LINES, b""
-    here.judge(f"check {HOLDING}", here.ran(check_words(HOLDING)), yes)
-    alone = runs.refused(b"RTA could not be validated")
+    here.each((check_words(HOLDING), yes))
+    alone = refused(b"RTA could not be validated")
     for file, chain, cause in ((HOLDING, CHAIN[:1], alone), (AGREEMENT, CHAIN, alone),
-                               (f"{runs.EXAMPLES}/broken.rta", CHAIN, runs.refused(b"missing certificate"))):
-        here.judge(f"check {file}", here.ran(check_words(file, chain=chain)), cause)
-    revoked = runs.refused(b"revoked by customer.crl")
+                               (f"{made.EXAMPLES}/broken.rta", CHAIN, refused(b"missing certificate"))):
+        here.each((check_words(file, chain=chain), cause))
+    revoked = refused(b"revoked by customer.crl")
     attestation_lists(here.room)
     for lists, wanted in ((["holder.crl"], yes), (["holder.crl", "customer.crl", "customer.crl"], revoked)):
-        here.judge(f"check {HOLDING}, {lists}", here.ran(given_words(*lists, files=(HOLDING,))), wanted)
-    here.judge(f"check --json {HOLDING}, a list", here.ran(
-        given_words("customer.crl", files=(HOLDING,), options=["--json"])),
-        in_json_line(HOLDING, "rta", False, revoked[1].decode().strip()))
+        here.each((given_words(*lists, files=(HOLDING,)), wanted))
+    here.each((given_words("customer.crl", files=(HOLDING,), options=["--json"]),
+               in_json_line(HOLDING, "rta", False, revoked[1].decode().strip())))
 
 
-# Of each of runs.OBJECTS what `openssl x509` prints of its signer's certificate: the serial number,
+# Of each of made.OBJECTS what `openssl x509` prints of its signer's certificate: the serial number,
 # the name of the signed object, the numbers.
 SIGNERS = ((b"01", b"origin.roa", b"ipv4 192.0.2.0/24\nipv6 2001:db8::/32\n"),
            (b"02", b"providers.asa", b"as AS64496\n"),
@@ -497,7 +434,7 @@ SIGNERS = ((b"01", b"origin.roa", b"ipv4 192.0.2.0/24\nipv6 2001:db8::/32\n"),
 def signer_lines(at):
     """The line of the signer of one of them, and below it those of its certificate."""
     serial, name, numbers = SIGNERS[at]
-    key = runs.OBJECTS[at][3].split()[2] + b"\n"
+    key = made.OBJECTS[at][3].split()[2] + b"\n"
     location = b"signed-object rsync://rpki.example.net/authority/%s\n" % name
     return (b"ee %s %scertificate\nserial %s\nvalid-from 2026-01-01T00:00:00Z\nvalid-until 2040-01-01T00:00:00Z\n"
             b"key-id %sauthority-key-id C78637259551E49913A293A978985D33FBECF9C1\nee\n%s"
@@ -508,33 +445,31 @@ def signer_lines(at):
 
 def whole_lines(at):
     """What is shown of one of them."""
-    return runs.OBJECTS[at][2].replace(b"\nnumber 1\n", b"\nnumber 01\n") + runs.SIGNING + signer_lines(at)
+    return made.OBJECTS[at][2].replace(b"\nnumber 1\n", b"\nnumber 01\n") + made.SIGNING + signer_lines(at)
 
 
 def each_shown(here):
     """What is shown of one file, and of several."""
-    every = [(file, whole_lines(at), kind) for at, (kind, file, _, _) in enumerate(runs.OBJECTS)]
-    every += [(f"{runs.PUBLISHED}/{name}", lines, b"crl" if name.endswith(".crl") else b"certificate")
+    every = [(file, whole_lines(at), kind) for at, (kind, file, _, _) in enumerate(made.OBJECTS)]
+    every += [(f"{made.PUBLISHED}/{name}", lines, "crl" if name.endswith(".crl") else "certificate")
               for name, lines in ISSUED.items()]
-    every += [(TALS[0], TAL_LINES, b"tal"), (HOLDING, example_files.WHOLE_RTA.encode(), b"rta")]
+    every += [(TALS[0], TAL_LINES, "tal"), (HOLDING, example_files.WHOLE_RTA.encode(), "rta")]
     for file, lines, kind in every:
         yes = 0, lines, b""
-        here.judge(f"show {file}", here.ran(show_words(file)), yes)
-        here.judge(f"show {file}, its kind and each option", here.ran(show_words(file, kind=kind, options=OPTIONS)), yes)
-        here.judge(f"show {file}, an option after it", here.ran([*show_words(file), b"--wide"]), yes)
-    for at, (kind, file, _, _) in enumerate(runs.OBJECTS):
-        here.judge(f"show {file} as another kind",
-                   here.ran(show_words(file, kind="aspa" if kind == b"roa" else "roa")), ANOTHER_KIND)
+        here.each((show_words(file), yes), (show_words(file, kind=kind, options=OPTIONS), yes),
+                  ([*show_words(file), b"--wide"], yes))
+    for at, (kind, file, _, _) in enumerate(made.OBJECTS):
+        here.each((show_words(file, kind="aspa" if kind == "roa" else "roa"), ANOTHER_KIND))
     said = b"".join(entry(file, lines) for file, lines, _ in every)
-    here.judge("show files of each kind", here.ran(show_words(*(it[0] for it in every))), (0, said, b""))
+    here.each((show_words(*(it[0] for it in every)), (0, said, b"")))
     said = entry(ORIGIN, every[0][1]) + entry(CHAIN[0], b"malformed\n")
-    here.judge("show a certificate as a ROA, as one of two",
-               here.ran(show_words(ORIGIN, CHAIN[0], kind="roa")), (1, said, b""))
-    for file, kind in ((CHAIN[0], "crl"), (f"{runs.EXAMPLES}/revoking.crl", "certificate"), (ORIGIN, "certificate"), (ORIGIN, "tal")):
-        here.judge(f"show {file} as {kind}", here.ran(show_words(file, kind=kind)), malformed(file))
-    here.judge("show files one of which is not there, and one of no kind", here.ran(show_words(ORIGIN, "none.cer", "none.txt")),
-               (4, entry(ORIGIN, every[0][1]) + entry("none.cer", here.unreadable(b"none.cer")[1])
-                + b"none.txt: skipped: unknown kind of file: give --kind KIND\n", b""))
+    here.each((show_words(ORIGIN, CHAIN[0], kind="roa"), (1, said, b"")))
+    for file, kind in ((CHAIN[0], "crl"), (f"{made.EXAMPLES}/revoking.crl", "certificate"), (ORIGIN, "certificate"),
+                       (ORIGIN, "tal")):
+        here.each((show_words(file, kind=kind), malformed(file)))
+    said = entry(ORIGIN, every[0][1]) + entry("none.cer", here.unreadable(b"none.cer")[1])
+    said += b"none.txt: skipped: unknown kind of file: give --kind KIND\n"
+    here.each((show_words(ORIGIN, "none.cer", "none.txt"), (4, said, b"")))
 
 
 def malformed(file):
@@ -542,7 +477,7 @@ def malformed(file):
 
 
 # The files of examples/ with what is said of each in JSON.
-FILES_IN_JSON = [(f"{runs.EXAMPLES}/{name}", kind, said) for name, kind, said in example_files.OBJECTS]
+FILES_IN_JSON = [(f"{made.EXAMPLES}/{name}", kind, said) for name, kind, said in example_files.OBJECTS]
 MEMBERS = {file: said for file, _, said in FILES_IN_JSON}
 
 
@@ -556,44 +491,40 @@ def in_json_line(file, kind, is_valid, said):
     is looked at, these lines."""
     if isinstance(said, bytes):
         said = {"lines": said.decode().splitlines()}
-    return int(not is_valid), in_json(file, kind, valid=is_valid, **({"reason": said} if isinstance(said, str) else said)), b""
+    return int(not is_valid), in_json(file, kind, valid=is_valid,
+                                      **({"reason": said} if isinstance(said, str) else said)), b""
 
 
 def each_json(here):
     """Files that are shown and checked as objects of JSON."""
     shown = [in_json(file, kind, **said) for file, kind, said in FILES_IN_JSON]
     for (file, _, _), line in zip(FILES_IN_JSON, shown):
-        here.judge(f"show --json {file}", here.ran(show_words(file, options=["--json"])), (0, line, b""))
+        here.each((show_words(file, options=["--json"]), (0, line, b"")))
     files = [file for file, _, _ in FILES_IN_JSON]
-    here.judge("show --json, files of each kind",
-               here.ran([*show_words(*files), b"--json"]), (0, b"".join(shown), b""))
+    here.each(([*show_words(*files), b"--json"], (0, b"".join(shown), b"")))
     keyless(here.room, CHAIN[1])
     for file, kind, cause in (
         (CHAIN[0], "roa", "malformed"), ("keyless.cer", "certificate", "malformed: subjectKeyIdentifier is missing"),
         (ORIGIN, "aspa", ANOTHER_KIND[1].decode().strip()), ("none", "crl", "cannot be read: no such file"),
     ):
-        here.judge(f"show --json, no {kind}", here.ran(show_words(file, kind=kind, options=["--json"])),
-                   (4 if file == "none" else 1, in_json_line(file, kind, False, cause)[1], b""))
-    checked = [(file, in_json_line(file, kind.decode(), True, MEMBERS[file])) for kind, file, *_ in runs.OBJECTS]
+        here.each((show_words(file, kind=kind, options=["--json"]),
+                   (4 if file == "none" else 1, in_json_line(file, kind, False, cause)[1], b"")))
+    checked = [(file, in_json_line(file, kind, True, MEMBERS[file])) for kind, file, *_ in made.OBJECTS]
     checked += [(HOLDING, in_json_line(HOLDING, "rta", True, MEMBERS[HOLDING]))]
     checked += [(file, in_json_line(file, "roa", False, f"refused: {cause.decode()}")) for file, cause in REFUSED]
-    for file, wanted in checked:
-        here.judge(f"check --json {file}", here.ran(check_words(file, options=["--json"])), wanted)
+    here.each(*((check_words(file, options=["--json"]), wanted) for file, wanted in checked))
     lines = b"".join(line for _, (_, line, _) in checked)
-    here.judge("check --json, several files, and some that are not checked", here.ran(
-        [*check_words(*(file for file, _ in checked), "none.mft", "none.txt"), b"--json"]),
-        (4, lines + in_json_line("none.mft", "manifest", False, "cannot be read: no such file")[1]
-         + in_json_line("none.txt", "", False, "skipped: no kind that is checked")[1], b""))
-    here.judge("check --json, a certificate as a ROA", here.ran(check_words(CHAIN[0], kind="roa", options=["--json"])),
-               in_json_line(CHAIN[0], "roa", False, "malformed"))
+    lines += in_json_line("none.mft", "manifest", False, "cannot be read: no such file")[1]
+    lines += in_json_line("none.txt", "", False, "skipped: no kind that is checked")[1]
+    here.each(([*check_words(*(file for file, _ in checked), "none.mft", "none.txt"), b"--json"], (4, lines, b"")),
+              (check_words(CHAIN[0], kind="roa", options=["--json"]),
+               in_json_line(CHAIN[0], "roa", False, "malformed")))
     cause = f"issuer refused: {CHAIN[0]}: certificate has expired"
     said = [in_json_line(file, kind, False, cause)[1] for file, kind in ((ORIGIN, "roa"), (HOLDING, "rta"))]
-    here.judge("check --json, the trust anchor has expired", here.ran(
-        check_words(ORIGIN, HOLDING, at="20410101000000Z", options=["--json"])), (1, b"".join(said), b""))
+    here.each((check_words(ORIGIN, HOLDING, at="20410101000000Z", options=["--json"]), (1, b"".join(said), b"")))
     for name in ('a"b.roa', "a\\b.roa", "\u00e9\U0001f511.roa"):
         shutil.copy(ORIGIN, os.fsencode(f"{here.room}/{name}"))
-        here.judge(f"check --json, the name {name!r}", here.ran(check_words(name, options=["--json"])),
-                   in_json_line(name, "roa", True, MEMBERS[ORIGIN]))
+        here.each((check_words(name, options=["--json"]), in_json_line(name, "roa", True, MEMBERS[ORIGIN])))
 
 
 def standard_input(here):
@@ -601,48 +532,49 @@ def standard_input(here):
     def asked(words, file):
         with open(file, "rb") as it:
             return here.ran(words, stdin=it)
-    yes = 0, b"yes\n" + runs.ORIGIN_LINES, b""
+    yes = 0, b"yes\n" + made.ORIGIN_LINES, b""
     here.judge("check, -- before -", asked(check_words("--", "-", kind="roa"), ORIGIN), yes)
     said = entry("-", yes[1]) + entry("-", EARLY_END[1])
     here.judge("check - twice: there is nothing left", asked(check_words("-", "-", kind="roa"), ORIGIN), (1, said, b""))
-    here.judge("check - without its kind", asked(check_words("-"), ORIGIN), (1, b"skipped: no kind that is checked\n", b""))
+    here.judge("check - without its kind", asked(check_words("-"), ORIGIN),
+               (1, b"skipped: no kind that is checked\n", b""))
     here.judge("check ./-, which is a file", asked(check_words("./-", kind="roa"), ORIGIN), here.unreadable(b"./-"))
-    runs.write(here.room, b"zeros", bytes(runs.LARGE))
+    here.write("zeros", bytes(strains.LARGE))
     for words, file, said, of_zeros in words_of_input(here):
         name = f"{b' '.join(map(os.path.basename, words))!r}"
         here.judge(f"{name}, {os.path.basename(file)!r} as -", asked(words, file), said)
         here.judge(f"{name}, in pieces", in_pieces(here, words, octets_of(file)), said)
         no_input(here, name, words)
-        runs.small(here, "zeros as -", runs.LARGE, words, of_zeros, given="zeros")
+        here.small("zeros as -", strains.LARGE, words, of_zeros, given="zeros")
 
 
 def words_of_input(here):
-    """Words of each command in which a file is `-`, that file, what is said, and what is said where it
-    is zeros."""
+    """Words of each command in which a file is `-`, that file, what is said, and what is said where it is zeros."""
     no_list, bad_locator = (2, b"", b"bad list -\n"), no_locator("-")
     authority, own, located = ("-", CHAIN[1]), TALS[0], ("tal=-", ANCHORS[1])
-    yes, held = (0, b"yes\n" + runs.ORIGIN_LINES, b""), here.ran(files_words())
-    listed, carried = ((0, octets_of(f"{it}.verdicts"), b"") for it in (
-        f"{runs.EXAMPLES}/origin.roa", AGREEMENT))
-    granted, revoking, second = ATTESTATIONS[0][1], f"{runs.EXAMPLES}/revoking.crl", f"{runs.EXAMPLES}/second.tal"
+    yes, held = (0, b"yes\n" + made.ORIGIN_LINES, b""), here.ran(files_words())
+    listed, carried = ((0, octets_of(f"{it}.verdicts"), b"") for it in (f"{made.EXAMPLES}/origin.roa", AGREEMENT))
+    granted, revoking, second = ATTESTATIONS[0][1], f"{made.EXAMPLES}/revoking.crl", f"{made.EXAMPLES}/second.tal"
     no_issuer = named_refusal("-", b"malformed")
     found = [
-        (check_words("-", kind="roa"), ORIGIN, yes, runs.MALFORMED),
+        (check_words("-", kind="roa"), ORIGIN, yes, MALFORMED),
         (check_words(ORIGIN, chain=authority), CHAIN[0], yes, no_issuer),
         (check_words(ORIGIN, tal="-"), own, yes, bad_locator),
         (check_words(ORIGIN, tal="-"), TALS[1], named_refusal(CHAIN[0], b"key is not that of -"), bad_locator),
-        (given_words("-"), revoking, runs.refused(b"revoked by -"), no_list),
+        (given_words("-"), revoking, refused(b"revoked by -"), no_list),
         (files_words(chain=authority), CHAIN[0], held, no_issuer),
-        (rta_words("-"), AGREEMENT, granted, runs.MALFORMED),
+        (rta_words("-"), AGREEMENT, granted, MALFORMED),
         (rta_words(AGREEMENT, *located), second, granted, no_locator("-")),
-        (list_words("-"), ORIGIN, listed, runs.MALFORMED),
-        (list_words(ORIGIN, authority), CHAIN[0], listed, runs.NO_ISSUER),
-        (rta_list_words("-"), AGREEMENT, carried, runs.MALFORMED),
-        (payloads_words("-", format="csv"), own, (0, printed(as_csv, "-"), NO_ROAS.replace(b", anchor)", b", -)")), bad_locator),
+        (list_words("-"), ORIGIN, listed, MALFORMED),
+        (list_words(ORIGIN, authority), CHAIN[0], listed, NO_ISSUER),
+        (rta_list_words("-"), AGREEMENT, carried, MALFORMED),
+        (payloads_words("-", format="csv"), own, (0, printed(as_csv, "-"), NO_ROAS.replace(b", anchor)", b", -)")),
+         bad_locator),
     ]
     kinds = [("certificate", CHAIN[1]), ("crl", revoking), ("tal", own), ("rta", AGREEMENT),
-             *((kind, file) for kind, file, _, _ in runs.OBJECTS)]
-    return found + [(show_words("-", kind=kind), file, here.ran(show_words(file, kind=kind)), runs.MALFORMED) for kind, file in kinds]
+             *((kind, file) for kind, file, _, _ in made.OBJECTS)]
+    return found + [(show_words("-", kind=kind), file, here.ran(show_words(file, kind=kind)), MALFORMED)
+                    for kind, file in kinds]
 
 
 def in_pieces(here, words, octets):
@@ -667,7 +599,7 @@ def no_input(here, name, words):
     """Runs whose standard input can't be read, or has no end."""
     is_entry = words[0] in (b"check", b"show") and words[-1] == b"-"
     unread = here.unreadable if is_entry else unreadable
-    here.judge(f"{name}, closed", here.ran(words, preexec_fn=runs.closed(0)), unread(b"-", b""))
+    here.judge(f"{name}, closed", here.ran(words, preexec_fn=running.closed(0)), unread(b"-", b""))
     folder = os.open(here.room, os.O_RDONLY)
     null = os.open(os.devnull, os.O_WRONLY)
     empty, into = os.pipe()
@@ -684,18 +616,20 @@ def no_input(here, name, words):
         os.close(stream)
     if here.is_plain:
         with open("/dev/full", "rb") as full:
-            got = here.ran(words, stdin=full, preexec_fn=runs.limited(256 << 20))
-            here.judge(f"{name}, /dev/full, which has no end", got, runs.OUT_OF_MEMORY)
+            got = here.ran(words, stdin=full, preexec_fn=running.limited(256 << 20))
+            here.judge(f"{name}, /dev/full, which has no end", got, OUT_OF_MEMORY)
 
 
 # What there is of payloads in examples/, and what is refused.
-COPY = runs.EXAMPLES
+COPY = made.EXAMPLES
 TALS = f"{COPY}/anchor.tal", f"{COPY}/second.tal"
 TAL_LINES = b"tal\nuri rsync://rpki.example.net/anchor.cer\nkey 1A3A434D3CB238F39188C4ED212421A717BB7C97\n"
-NO_ROAS = b"".join(f"refused {uri}: {cause} (under {under}, anchor)\n".encode() for uri, cause, under in EXAMPLES_REFUSED)
+NO_ROAS = b"".join(f"refused {uri}: {cause} (under {under}, anchor)\n".encode()
+                   for uri, cause, under in EXAMPLES_REFUSED)
 NO_SECOND = b"refused second: manifest is not in the copy\n"
 # The same where there is no memory to read the point of the CA.
-UNREAD = [("rsync://rpki.example.net/anchor/anchor.mft", "not read: 1 CA, out of memory", "rsync://rpki.example.net/anchor/anchor.mft")]
+UNREAD = [("rsync://rpki.example.net/anchor/anchor.mft", "not read: 1 CA, out of memory",
+           "rsync://rpki.example.net/anchor/anchor.mft")]
 NO_MEMORY = b"refused %s: %s (under %s, anchor)\n" % (*map(str.encode, UNREAD[0]),)
 # The same where memory runs out in a run under a locator, but in no point below its trust anchor's.
 NO_RUN = b"refused %s: out of memory\n"
@@ -704,7 +638,7 @@ NO_ANCHOR = ("no such folder: {0}\n"
              "refused anchor: its certificate is not in the copy\n"
              "anchor: looked for {0}/rpki.example.net/anchor.cer and {0}/ta/anchor/anchor.cer\n").format
 # The largest file, a manifest, and what is said where it is too large.
-LARGEST = os.path.getsize(runs.MANIFEST)
+LARGEST = os.path.getsize(made.MANIFEST)
 TOO_LARGE = (b"refused rsync://rpki.example.net/authority/authority.mft: manifest is too large"
              b" (under rsync://rpki.example.net/anchor/anchor.mft, anchor)\n")
 
@@ -727,7 +661,7 @@ def made_now(octets, before):
 
 
 def payloads(here):
-    """The payloads of a copy. tools/payloads_trees has further copies."""
+    """The payloads of a copy. trees.py has further copies."""
     for options, write in WRITERS.items():
         status, out, err = here.ran(payloads_words(options=options))
         if "--long" in options:
@@ -738,40 +672,31 @@ def payloads(here):
         said = printed(as_json) if at == marked(MOMENT) else made_now(got[1], before)
         here.judge(f"payloads at {at}", got, (0, said, NO_ROAS))
     lines = printed(as_lines)
-    for what, words, wanted in (
-        ("under two locators", payloads_words(*TALS), (1, lines, NO_SECOND + NO_ROAS)),
-        ("of no copy", payloads_words(copy="none"), (1, b"", NO_ANCHOR("none").encode())),
-        ("of -, which is no folder", payloads_words(copy="-"), (1, b"", NO_ANCHOR("-").encode())),
-        ("under no locator", payloads_words(ORIGIN), no_locator(ORIGIN)),
-        ("under a locator that is not there", payloads_words(TALS[0], "none"), unreadable(b"none")),
-        ("of files of 1 octet", payloads_words(max_file="1"), (1, b"", b"refused anchor: its certificate is too large\n")),
-        ("of files as large as the largest", payloads_words(max_file=str(LARGEST)), (0, lines, NO_ROAS)),
-        ("of smaller files", payloads_words(max_file=str(LARGEST - 1)), (0, b"", TOO_LARGE)),
-        ("with each option", payloads_words(max_file="20000000", limit="8589934592", options=["--wide", "-v"]), (0, lines, NO_ROAS)),
-    ):
-        here.judge(f"payloads {what}", here.ran(words), wanted)
+    here.each((payloads_words(*TALS), (1, lines, NO_SECOND + NO_ROAS)),
+              (payloads_words(copy="none"), (1, b"", NO_ANCHOR("none").encode())),
+              (payloads_words(copy="-"), (1, b"", NO_ANCHOR("-").encode())),
+              (payloads_words(ORIGIN), no_locator(ORIGIN)), (payloads_words(TALS[0], "none"), unreadable(b"none")),
+              (payloads_words(max_file="1"), (1, b"", b"refused anchor: its certificate is too large\n")),
+              (payloads_words(max_file=str(LARGEST)), (0, lines, NO_ROAS)),
+              (payloads_words(max_file=str(LARGEST - 1)), (0, b"", TOO_LARGE)),
+              (payloads_words(max_file="20000000", limit="8589934592", options=["--wide", "-v"]), (0, lines, NO_ROAS)))
 
 
 def laid(here, folder, tree):
     """Puts the copy and the locators of a tree into a folder."""
-    for path, octets in tree.written().items():
-        path = f"{here.room}/{folder}/copy/{path}"
-        os.makedirs(os.path.dirname(path), exist_ok=True)
-        runs.write(os.path.dirname(path), os.fsencode(os.path.basename(path)), octets)
-    for name, octets in tree.tals.items():
-        runs.write(f"{here.room}/{folder}", os.fsencode(name), octets)
+    here.lay({f"{folder}/copy/{path}": octets for path, octets in tree.written().items()})
+    here.lay({f"{folder}/{name}": octets for name, octets in tree.tals.items()})
 
 
 def several_locators(here):
     """What two trust anchors say, one under a name that CSV quotes and JSON escapes: each payload once,
     as long as it holds below the one where it holds longest; and a customer with its providers by both."""
-    import payload_trees
-    import publication
-    tree = payload_trees.Tree()
+    tree = tree_rows.Tree()
     name, later, sooner = 'two, "2"\\', "20370101000000Z", "20300101000000Z"
     other = publication.Ca("other", publication.EVERYTHING)
     under = publication.Ca("x", tree.a.claim, other)
-    for file, number, prefix, last in (("longer", 65001, "10.1.0.0/16-24", later), ("shorter", 65001, "2001:db8:1::/48", sooner),
+    for file, number, prefix, last in (("longer", 65001, "10.1.0.0/16-24", later),
+                                       ("shorter", 65001, "2001:db8:1::/48", sooner),
                                        ("own", 65003, "10.1.2.0/24", sooner)):
         under.add_roa(f"{file}.roa", number, [prefix], last=last)
     under.add_aspa("o.asa", 65001, [65011, 65012], last=sooner)
@@ -783,9 +708,10 @@ def several_locators(here):
     tree.put(other.uri, other.certificate())
     tree.tals[f"{name}.tal"] = publication.locator([other.uri], other.signer)
     laid(here, "two", tree)
-    origin, aspa = payload_trees.origin, payload_trees.aspa
+    origin, aspa = tree_rows.origin, tree_rows.aspa
     found = [("one", tree.found["one"]), (name, [
-        origin(65001, "10.1.0.0/16", 24, later), origin(65001, "2001:db8:1::/48", None, sooner), origin(65003, "10.1.2.0/24", None, sooner),
+        origin(65001, "10.1.0.0/16", 24, later), origin(65001, "2001:db8:1::/48", None, sooner),
+        origin(65003, "10.1.2.0/24", None, sooner),
         aspa(65001, 65011, 65012, until=sooner), aspa(65009, 65010, until=later)])]
     for order in (found, found[::-1]):
         tals = [f"two/{name}.tal" for name, _ in order]
@@ -797,29 +723,29 @@ def several_locators(here):
 
 
 def exceptions(here):
-    """Payloads after local exceptions, by tools/local_exceptions.py."""
+    """Payloads after local exceptions, by exceptions.py."""
     def ran(*texts):
         files = [f"{at}.json" for at in range(len(texts))]
         for file, text in zip(files, texts):
-            runs.write(here.room, os.fsencode(file), text.encode())
+            here.write(file, text.encode())
         return here.ran(payloads_words(slurm=files))
     origins = of_lines(printed(as_lines))
     pairs = [(customer, it) for kind, customer, several, *_ in EXAMPLES if kind == "aspa" for it in several]
-    one = local_exceptions.made(filters=local_exceptions.FILTERS[:1], assertions=local_exceptions.ASSERTIONS)
-    two = local_exceptions.made(2, aspa_filters=[{"customerAsn": 64496}],
+    one = slurm.made(filters=slurm.FILTERS[:1], assertions=slurm.ASSERTIONS)
+    two = slurm.made(2, aspa_filters=[{"customerAsn": 64496}],
                                 aspa_assertions=[{"customerAsn": 64500, "providerAsns": [64501, 64502]}])
     # What is found already, alone and with a provider more.
-    again = local_exceptions.made(2, assertions=[{"asn": 64496, "prefix": "192.0.2.0/24", "maxPrefixLength": 26}],
+    again = slurm.made(2, assertions=[{"asn": 64496, "prefix": "192.0.2.0/24", "maxPrefixLength": 26}],
                                   aspa_assertions=[{"customerAsn": 64496, "providerAsns": [64497, 64498]}])
-    for texts in ((one,), (two,), (one, two), (again,), *local_exceptions.APART):
-        left, pairs_left = local_exceptions.after(origins, pairs, *texts)
+    for texts in ((one,), (two,), (one, two), (again,), *slurm.APART):
+        left, pairs_left = slurm.after(origins, pairs, *texts)
         said = [("origin", *it, "") for it in left] + [("aspa", customer, (it,), "") for customer, it in pairs_left]
         here.judge(f"payloads after {texts}", ran(*texts), (0, printed(as_lines, said=said), NO_ROAS))
-    for what, text in local_exceptions.REFUSED.items():
+    for what, text in slurm.REFUSED.items():
         here.judge(f"payloads after {what}", (*ran(text)[:2], b""), (2, b"", b""))
-    for texts in local_exceptions.OVERLAPPING:
+    for texts in slurm.OVERLAPPING:
         here.judge(f"payloads after {texts}", (*ran(*texts)[:2], b""), (2, b"", b""))
-    here.judge("payloads after exceptions that are not there", here.ran(payloads_words(slurm="none")), unreadable(b"none"))
+    here.each((payloads_words(slurm="none"), unreadable(b"none")))
 
 
 def moments(here):
@@ -834,7 +760,7 @@ def moments(here):
                           ("20400101000001Z", b"certificate has expired")):
         for at in (moment, marked(moment)):
             for words in (check_words(ORIGIN, at=at), files_words(at=at)):
-                here.judge(f"{words[0]!r} at {at}", here.ran(words), named_refusal(CHAIN[0], cause))
+                here.each((words, named_refusal(CHAIN[0], cause)))
 
 
 def signatures(here, room):
@@ -845,27 +771,25 @@ def signatures(here, room):
         changed[-at] ^= 1
         with open(name, "wb") as it:
             it.write(changed)
-        here.judge(f"octet {at} from the end changed", here.ran(check_words(name, kind="roa")),
-                   runs.refused(b"signature is not valid"))
+        here.each((check_words(name, kind="roa"), refused(b"signature is not valid")))
     with open(name, "wb") as it:
         it.write(octets + b"more")
-    yes = 0, b"yes\n" + runs.ORIGIN_LINES, b""
-    here.judge("octets after the object", here.ran(check_words(name, kind="roa")), yes)
+    yes = 0, b"yes\n" + made.ORIGIN_LINES, b""
+    here.each((check_words(name, kind="roa"), yes))
     forged_certificate(here)
 
 
 def forged_certificate(here):
     """A ROA whose certificate is signed by the key of another CA than its issuer."""
-    import payload_trees
-    import publication
-    tree = payload_trees.Tree()
+    tree = tree_rows.Tree()
     tree.a.add_roa("forged.roa", 65001, ["10.1.9.0/24"], by=publication.signer("b"))
-    for name, it in (("top.cer", tree.top.certificate()), ("a.cer", tree.a.certificate()), ("forged.roa", tree.a.files["forged.roa"]),
+    for name, it in (("top.cer", tree.top.certificate()), ("a.cer", tree.a.certificate()),
+                     ("forged.roa", tree.a.files["forged.roa"]),
                      ("twice.roa", tree.a.files["forged.roa"][:-1] + b"\0")):
-        runs.write(here.room, os.fsencode(name), it)
+        here.write(name, it)
     for name in ("forged.roa", "twice.roa"):
-        said = runs.refused(b"signature is not valid: the key in a.cer did not sign its certificate")
-        here.judge(f"check {name}", here.ran(check_words(name, chain=("top.cer", "a.cer"))), said)
+        said = refused(b"signature is not valid: the key in a.cer did not sign its certificate")
+        here.each((check_words(name, chain=("top.cer", "a.cer")), said))
 
 
 def helps(here):
@@ -878,61 +802,47 @@ def helps(here):
         usage, about, listed, rest = (*out.decode().split("\n\n"), "", "", "")[:4]
         options = [(it[1:3], it[4], it[5]) for it in rows if len(it) == 6 and it[0] == command]
         wanted = [f"  {' '.join(words):<18}{help}{f': {form}' * bool(form)}" for words, form, help in options]
-        here.judge(f"{command} --help", (status, [about, *listed.split("\n"), rest[:5]], err), (0, [said, *wanted, "After"], b""))
+        here.judge(f"{command} --help", (status, [about, *listed.split("\n"), rest[:5]], err),
+                   (0, [said, *wanted, "After"], b""))
         parts = operands, bare, *(words[0] for words, *_ in options if words[0] != "--help")
         lacking = ", ".join(it for it in parts if it not in usage)
         here.judge(f"usage of {command}", (status, lacking, err), (0, "", b""))
         wanted = (f'rpki_verify: unknown option "--none": put -- before a file whose name begins with -\n{usage}\n'
                   f"rpki_verify {command} --help says more\n")
-        here.judge(f"{command} --none", here.ran([command.encode(), b"--none"]), (2, b"", wanted.encode()))
+        here.each(([command.encode(), b"--none"], (2, b"", wanted.encode())))
 
 
 def no_text(here):
     """Words that are no text (UTF-8)."""
-    for words in ([b"\xff"], [b"show", b"\xff.roa"], check_words(b"\xff.roa"), [*check_words(ORIGIN), b"--ca", b"\xff"]):
-        here.judge(f"words {words[-1]!r}", here.ran(words), (2, b"", b"rpki_verify: an argument is not UTF-8\n"))
-
-
-def pages(here):
-    """The examples of the pages, which both programs have to print."""
-    folder, both = f"{here.room}/programs", (here.program, here.objects)
-    os.mkdir(folder)
-    for name, path in zip(PROGRAMS, both):
-        os.symlink(path, f"{folder}/{name}")
-    are_tried = {os.path.dirname(os.path.realpath(it)) for it in both} == {os.path.realpath(KEPT)}
-    said = subprocess.run([f"{TOOLS}/page_runs", "--unproved" if are_tried else folder],
-                          capture_output=True, check=False)
-    lines = said.stdout.splitlines(keepends=True)
-    wrong = b"".join(it for it in lines if b": WRONG: " in it)
-    here.judge(f"examples of the pages, {lines[-1:]}", (said.returncode, wrong, said.stderr), (0, b"", b""))
+    for words in ([b"\xff"], [b"show", b"\xff.roa"], check_words(b"\xff.roa"),
+                  [*check_words(ORIGIN), b"--ca", b"\xff"]):
+        here.each((words, (2, b"", b"rpki_verify: an argument is not UTF-8\n")))
 
 
 def file_names(here):
     """Names of files, none of which has a line end."""
-    names = [it for it in runs.NAMES if b"\n" not in it]
+    names = [it for it in strains.NAMES if b"\n" not in it]
     os.mkdir(f"{here.room}/folder")
-    runs.file_names(here, names)
+    here.file_names(names)
     os.rmdir(f"{here.room}/folder")
     for name in names:
         name = name[:251] + b".roa"
         path = os.path.join(os.fsencode(here.room), name)
         shutil.copy(ORIGIN, path)
-        here.judge(f"check {name[:20]!r}", here.ran(check_words("--", name)), (0, b"yes\n" + runs.ORIGIN_LINES, b""))
+        here.each((check_words("--", name), (0, b"yes\n" + made.ORIGIN_LINES, b"")))
         os.remove(path)
     for count in (256, 5_000):
         name = b"n" * (count - 4) + b".roa"
-        here.judge(f"check a name of {count} octets", here.ran(check_words(name)), here.unreadable(name, b""))
+        here.each((check_words(name), here.unreadable(name, b"")))
 
 
 def special(here):
     """A folder, and files that are none of the disk."""
     os.mkdir(f"{here.room}/folder")
     here.asks("a folder", b"folder", here.unreadable(b"folder", b"is a folder"))
-    here.judge("an object that is a folder", here.ran(check_words("folder", kind="roa")),
-               here.unreadable(b"folder", b"is a folder"))
-    here.judge("a certificate that is a folder", here.ran(check_words(ORIGIN, chain=[*CHAIN, "folder"])),
-               unreadable(b"folder", b"is a folder"))
-    runs.special_files(here)
+    here.each((check_words("folder", kind="roa"), here.unreadable(b"folder", b"is a folder")),
+              (check_words(ORIGIN, chain=[*CHAIN, "folder"]), unreadable(b"folder", b"is a folder")))
+    here.special_files()
 
 
 def each_when_done(here):
@@ -960,7 +870,7 @@ def given_late(here, words, count, path, octets):
     only the former, where it is less or takes too long."""
     with subprocess.Popen([here.program, *words], cwd=here.room, stdin=subprocess.DEVNULL, stdout=subprocess.PIPE,
                           stderr=subprocess.PIPE) as run:
-        early, until = b"", time.monotonic() + runs.SLOWER * runs.SECONDS
+        early, until = b"", time.monotonic() + running.SLOWER * running.SECONDS
         while len(early) < count and select.select([run.stdout], [], [], max(0, until - time.monotonic()))[0]:
             part = os.read(run.stdout.fileno(), count - len(early))
             if not part:
@@ -980,43 +890,50 @@ EXPLAINED = words_of("explain", COPY, TALS[0], "rsync://rpki.example.net/authori
 
 def streams(here):
     """Streams that take nothing."""
-    revoking = f"{runs.EXAMPLES}/revoking.crl"
-    for asked in ([b"--help"], [b"--version"], [b"--options"], [b"check", b"--help"], check_words(ORIGIN), check_words(BROKEN),
-                  check_words(ORIGIN, BROKEN), given_words("late.crl"), check_words("none.roa"), check_words(CHAIN[0], "none"),
-                  show_words(ORIGIN, CHAIN[0]), show_words(CHAIN[0]), show_words(revoking), show_words(TALS[0]), show_words("none.roa"),
+    revoking = f"{made.EXAMPLES}/revoking.crl"
+    for asked in ([b"--help"], [b"--version"], [b"--options"], [b"check", b"--help"], check_words(ORIGIN),
+                  check_words(BROKEN),
+                  check_words(ORIGIN, BROKEN), given_words("late.crl"), check_words("none.roa"),
+                  check_words(CHAIN[0], "none"),
+                  show_words(ORIGIN, CHAIN[0]), show_words(CHAIN[0]), show_words(revoking), show_words(TALS[0]),
+                  show_words("none.roa"),
                   check_words(ORIGIN, options=["--json"]), check_words(BROKEN, ORIGIN, options=["--json"]),
                   show_words(ORIGIN, CHAIN[0], options=["--json"]), files_words(), files_words(options=["--json"]),
                   list_words(ORIGIN), rta_words(AGREEMENT), rta_list_words(AGREEMENT), EXPLAINED,
                   *(payloads_words(options=it) for it in WRITERS)):
-        runs.stream_takes_nothing(here, "stdout", 1, asked)
+        here.stream_takes_nothing("stdout", asked)
     for asked in ([b"none"], [], check_words(), check_words("a.roa", chain=["none"]), given_words(ORIGIN),
                   check_words(ORIGIN, tal=ORIGIN), files_words(folder="none"), files_words(ORIGIN), list_words("none"),
                   rta_words("none"), payloads_words(ORIGIN)):
-        runs.stream_takes_nothing(here, "stderr", 2, asked)
+        here.stream_takes_nothing("stderr", asked)
     # What is said of files is written on standard output first.
     for asked in (payloads_words(), given_words(revoking, files=(TALS[0],), chain=CHAIN[:1])):
-        runs.stream_takes_nothing(here, "stderr", 2, asked, wanted=(2, here.ran(asked)[1], b""))
+        here.stream_takes_nothing("stderr", asked, wanted=(2, here.ran(asked)[1], b""))
 
 
 def memory(here, preload):
     """Each allocation refused in turn. Entries before the one for which there is no memory are printed."""
     def in_turn(words, *entries):
         before = [(3, b"".join(entries[:at + 1]), b"out of memory\n") for at in range(len(entries))]
-        runs.refused_in_turn(here, preload, words, here.ran(words), *before)
-    yes, revoking = b"yes\n" + runs.ORIGIN_LINES, f"{runs.EXAMPLES}/revoking.crl"
-    for file in (ORIGIN, BROKEN, EXPIRED, runs.OVERCLAIMING, HOLDING, runs.MANIFEST, TALS[0]):
+        here.refused_in_turn(preload, words, here.ran(words), *before)
+    yes, revoking = b"yes\n" + made.ORIGIN_LINES, f"{made.EXAMPLES}/revoking.crl"
+    for file in (ORIGIN, BROKEN, EXPIRED, made.OVERCLAIMING, HOLDING, made.MANIFEST, TALS[0]):
         in_turn(check_words(file))
     in_turn(check_words(ORIGIN, BROKEN, tal=TALS[0]), entry(ORIGIN, yes))
     in_turn(check_words(ORIGIN, BROKEN, HOLDING, options=["--json"]),
             *(here.ran(check_words(it, options=["--json"]))[1] for it in (ORIGIN, BROKEN)))
     in_turn(given_words(revoking), b"refused: revoked by " + os.fsencode(revoking) + b"\n")
     in_turn(given_words(revoking, files=(TALS[0],), chain=CHAIN[:1]), b"yes\n" + TAL_LINES)
-    for words in (check_words(CHAIN[1], chain=CHAIN[:1]), check_words(f"{runs.AUTHORITY}/authority.crl"), given_words(ORIGIN),
+    for words in (check_words(CHAIN[1], chain=CHAIN[:1]), check_words(f"{made.AUTHORITY}/authority.crl"),
+                  given_words(ORIGIN),
                   given_words("late.crl", revoking), check_words(ORIGIN, tal=TALS[1]), check_words(ORIGIN, tal=ORIGIN),
-                  check_words(ORIGIN, at="then"), check_words(ORIGIN, chain=["none"]), check_words("none.roa"), [b"--help"],
-                  [b"--options"], [b"show", b"--at", b"now"], [b"show", b"--help"], files_words(), files_words(folder="few"),
-                  files_words(f"{runs.EXAMPLES}/letter.sig", "letters", options=["--json"]), list_words(ORIGIN), EXPLAINED,
-                  *(rta_words(f"{runs.EXAMPLES}/{name}") for name, _ in ATTESTATIONS), rta_list_words(AGREEMENT)):
+                  check_words(ORIGIN, at="then"), check_words(ORIGIN, chain=["none"]), check_words("none.roa"),
+                  [b"--help"],
+                  [b"--options"], [b"show", b"--at", b"now"], [b"show", b"--help"], files_words(),
+                  files_words(folder="few"),
+                  files_words(f"{made.EXAMPLES}/letter.sig", "letters", options=["--json"]), list_words(ORIGIN),
+                  EXPLAINED,
+                  *(rta_words(f"{made.EXAMPLES}/{name}") for name, _ in ATTESTATIONS), rta_list_words(AGREEMENT)):
         in_turn(words)
     shown = [file for file, _, _ in FILES_IN_JSON]
     in_turn(show_words(*shown, options=["--json"]),
@@ -1025,21 +942,22 @@ def memory(here, preload):
     for options, write in WRITERS.items():
         if write in (as_lines, as_csv, as_json):
             said, unread = printed(write), printed(write, said=[], refused=UNREAD)
-            runs.refused_in_turn(here, preload, payloads_words(*TALS, options=options),
+            here.refused_in_turn(preload, payloads_words(*TALS, options=options),
                                  (1, said, NO_SECOND + NO_ROAS), (1, unread, NO_SECOND + NO_MEMORY),
-                                 (3, printed(write, None), NO_RUN % b"anchor" + NO_SECOND), (3, said, NO_RUN % b"second" + NO_ROAS))
-    runs.refused_in_turn(here, preload, payloads_words(copy="none"), (1, b"", NO_ANCHOR("none").encode()),
+                                 (3, printed(write, None), NO_RUN % b"anchor" + NO_SECOND),
+                                 (3, said, NO_RUN % b"second" + NO_ROAS))
+    here.refused_in_turn(preload, payloads_words(copy="none"), (1, b"", NO_ANCHOR("none").encode()),
                          (3, b"", NO_RUN % b"anchor"))
 
 
 def hostile(here):
-    """What tools/runs does with large and changing files."""
-    runs.changing_files(here)
-    octets, _, lines = runs.long_roa(here.cut_count)
-    runs.cut_while_read(here, "a ROA after --kind", show_words("changing", kind="roa"), octets,
-                        lines + runs.SIGNING + signer_lines(0))
-    runs.hostile(here, hostile_words(here))
-    runs.long_attestations(here, rta_words("long.rta"), b"missing certificate")
+    """What tools/program runs does with large and changing files."""
+    here.changing_files()
+    octets, _, lines = made.long_roa(here.cut_count)
+    here.cut_while_read("a ROA after --kind", show_words("changing", kind="roa"), octets,
+                        lines + made.SIGNING + signer_lines(0))
+    here.hostile(hostile_words(here))
+    here.long_attestations(rta_words("long.rta"), b"missing certificate")
     long_shown(here)
     long_list(here)
     good_roa(here)
@@ -1050,21 +968,21 @@ def hostile_words(here):
     name, no_issuer = "hostile", named_refusal("hostile", b"malformed")
     os.symlink(name, f"{here.room}/hostile.mft")
     kinds = "roa", "manifest", "rta", "certificate", "crl", "tal"
-    asked = [(command(name, kind=kind, options=options), runs.MALFORMED) for command in (show_words, check_words)
+    asked = [(command(name, kind=kind, options=options), MALFORMED) for command in (show_words, check_words)
              for kind in kinds for options in ((), OPTIONS)[:1 + (kind == "roa")]]
     for chain in ([name], [CHAIN[0], name], [*CHAIN, name]):
         under = f"ca={':'.join(chain)}"
         asked += [(check_words(ORIGIN, chain=chain), no_issuer), (files_words(chain=chain), no_issuer),
                   (rta_words(AGREEMENT, under), no_issuer), (rta_words(AGREEMENT, ANCHORS[0], under), no_issuer),
-                  (list_words(ORIGIN, chain), runs.NO_ISSUER), (rta_list_words(AGREEMENT, under), runs.NO_ISSUER)]
+                  (list_words(ORIGIN, chain), NO_ISSUER), (rta_list_words(AGREEMENT, under), NO_ISSUER)]
     located = f"tal={name}", ANCHORS[1]
     return asked + [
         (check_words(name, name, kind="roa"), (1, b"hostile: malformed\n" * 2, b"")),
         (show_words(name, name, kind="roa"), (1, b"hostile: malformed\n" * 2, b"")),
-        (files_words("hostile.mft"), runs.MALFORMED), (rta_words(name), runs.MALFORMED), (list_words(name), runs.MALFORMED),
+        (files_words("hostile.mft"), MALFORMED), (rta_words(name), MALFORMED), (list_words(name), MALFORMED),
         (given_words(name), (2, b"", b"bad list hostile\n")), (check_words(ORIGIN, tal=name), no_locator(name)),
         (payloads_words(name), no_locator(name)),
-        (rta_list_words(name), runs.MALFORMED), (rta_words(AGREEMENT, *located), no_locator(name)),
+        (rta_list_words(name), MALFORMED), (rta_words(AGREEMENT, *located), no_locator(name)),
         (rta_list_words(AGREEMENT, *located), (0, octets_of(f"{AGREEMENT}.verdicts"), b"")),
     ]
 
@@ -1076,65 +994,60 @@ TIMES_OF_JSON, TIMES_OF_LIST = 112, 8
 def long_shown(here):
     """A ROA and a manifest that are shown, and that are not well signed."""
     unsigned = b"signature is not valid"
-    octets, lines = runs.put_long(here, b"long.roa", *runs.long_roa(here.many))
+    octets, lines = here.put_long("long.roa", *made.long_roa(here.many))
     prefixes = [it.split()[1] for it in lines.decode().splitlines()[2:]]
     vrps = [{"asn": "AS64496", "prefix": it, "maxLength": 64} for it in prefixes]
     long_file(here, octets, "long.roa", 0, lines, vrps=vrps)
-    for words, wanted in ((check_words("long.roa"), runs.refused(unsigned)),
+    for words, wanted in ((check_words("long.roa"), refused(unsigned)),
                           (check_words("long.roa", options=["--json"]),
                            in_json_line("long.roa", "roa", False, f"refused: {unsigned.decode()}"))):
-        runs.small(here, f"{here.many} prefixes", len(octets), words, wanted)
-    octets, lines = runs.put_long(here, b"long.mft", *runs.long_manifest(here.many))
+        here.small(f"{here.many} prefixes", len(octets), words, wanted)
+    octets, lines = here.put_long("long.mft", *made.long_manifest(here.many))
     lines = lines.replace(b"number c\n", b"number 0C\n", 1)
-    files = [{"filename": name.decode(), "hash": it.hex()} for name, it in runs.long_files(here.many)]
+    files = [{"filename": name.decode(), "hash": it.hex()} for name, it in made.long_files(here.many)]
     long_file(here, octets, "long.mft", 2, lines, manifest_number="0C",
               this_update="2024-01-01T00:00:00Z", next_update="2024-01-08T00:00:00Z",
               filesandhashes=files)
-    runs.small(here, f"{here.many} files", len(octets), files_words("long.mft"), runs.refused(unsigned))
+    here.small(f"{here.many} files", len(octets), files_words("long.mft"), refused(unsigned))
 
 
 def long_file(here, octets, file, at, lines, **said):
-    """What is shown of a long object, in lines and in JSON. `at` is where runs.OBJECTS has that from
+    """What is shown of a long object, in lines and in JSON. `at` is where made.OBJECTS has that from
     which it was made."""
-    runs.small(here, f"{here.many} in all", len(octets), show_words(file),
-               (0, lines + runs.SIGNING + signer_lines(at), b""))
+    here.small(f"{here.many} in all", len(octets), show_words(file), (0, lines + made.SIGNING + signer_lines(at), b""))
     _, kind, members = FILES_IN_JSON[at]
-    runs.small(here, f"{here.many} in all", len(octets), show_words(file, options=["--json"]),
+    here.small(f"{here.many} in all", len(octets), show_words(file, options=["--json"]),
                (0, in_json(file, kind, **members | said), b""), times=TIMES_OF_JSON)
 
 
 def long_list(here):
     """A revocation list of the CA with very many serial numbers, of which the last is that of a ROA."""
-    import publication
     key = publication.signer("authority")
     serials = [*range(1_000, 1_000 + here.many - 1), 1]
     octets = publication.crl(key, publication.SIGNED, publication.NEXT, serials, key)
-    runs.write(here.room, b"long.crl", octets)
+    here.write("long.crl", octets)
     texts = [json_members.whole_hex(f"{it:x}") for it in serials]
-    lines = ISSUED["authority/authority.crl"] + "".join(
-        f"revoked {it} 2026-11-01T00:00:00Z\n" for it in texts).encode()
+    lines = ISSUED["authority/authority.crl"] + "".join(f"revoked {it} 2026-11-01T00:00:00Z\n" for it in texts).encode()
     _, kind, members = next(it for it in FILES_IN_JSON if it[1] == "crl")
     said = members | {"revoked_certs": [{"serial": it, "date": "2026-11-01T00:00:00Z"} for it in texts]}
-    _, providers, shown, _ = runs.OBJECTS[1]
+    _, providers, shown, _ = made.OBJECTS[1]
     for words, wanted, times in (
         (show_words("long.crl"), (0, lines, b""), TIMES_OF_LIST),
         (show_words("long.crl", options=["--json"]), (0, in_json("long.crl", kind, **said), b""), TIMES_OF_JSON),
-        (check_words("long.crl"), (0, b"yes\ncrl\n", b""), runs.TIMES),
-        (given_words("long.crl"), runs.refused(b"revoked by long.crl"), runs.TIMES),
-        (given_words("long.crl", files=(providers,)), (0, b"yes\n" + shown, b""), runs.TIMES),
+        (check_words("long.crl"), (0, b"yes\ncrl\n", b""), running.TIMES),
+        (given_words("long.crl"), refused(b"revoked by long.crl"), running.TIMES),
+        (given_words("long.crl", files=(providers,)), (0, b"yes\n" + shown, b""), running.TIMES),
     ):
-        runs.small(here, f"{here.many} serial numbers", len(octets), words, wanted, times=times)
+        here.small(f"{here.many} serial numbers", len(octets), words, wanted, times=times)
 
 
 def good_roa(here):
-    """A ROA of very many prefixes that is good, of a tree of tools/payload_trees.py."""
-    import payload_trees
-    tree = payload_trees.Tree()
-    payload_trees.of_prefixes(tree, here.many)
+    """A ROA of very many prefixes that is good, of a tree of tree_rows.py."""
+    tree = tree_rows.Tree()
+    tree_rows.of_prefixes(tree, here.many)
     octets = tree.a.files["o.roa"]
-    for name, it in (("top.cer", tree.top.certificate()), ("a.cer", tree.a.certificate()),
-                     ("o.roa", octets)):
-        runs.write(here.room, os.fsencode(name), it)
+    for name, it in (("top.cer", tree.top.certificate()), ("a.cer", tree.a.certificate()), ("o.roa", octets)):
+        here.write(name, it)
     prefixes = [it[2] for it in tree.found["one"] if it[0] == "origin" and it[2].endswith("/80")]
     lines = "".join(f"origin {prefix}\n" for prefix in prefixes).encode()
     lines = b"roa\nas AS65001\n" + lines
@@ -1142,22 +1055,22 @@ def good_roa(here):
     for options, wanted, times in (([], (0, b"yes\n" + lines, b""), TIMES_OF_LIST),
                                    (["--json"], (0, in_json(**shown, valid=True), b""), TIMES_OF_JSON)):
         words = check_words("o.roa", chain=("top.cer", "a.cer"), options=options)
-        runs.small(here, f"{here.many} prefixes", len(octets), words, wanted, times=times)
+        here.small(f"{here.many} prefixes", len(octets), words, wanted, times=times)
 
 
 def client(here, room):
     """Each object by both programs, at the moment of the clock: yes or no."""
     cache = f"{room}/cache"
     os.makedirs(f"{cache}/ta/anchor")
-    shutil.copytree(runs.PUBLISHED, f"{cache}/{os.path.basename(runs.PUBLISHED)}")
+    shutil.copytree(made.PUBLISHED, f"{cache}/{os.path.basename(made.PUBLISHED)}")
     shutil.copy(CHAIN[0], f"{cache}/ta/anchor/anchor.cer")
-    shutil.copy(f"{runs.EXAMPLES}/letter.sig", cache)
+    shutil.copy(f"{made.EXAMPLES}/letter.sig", cache)
     for folder, _, names in os.walk(room):
         os.chmod(folder, 0o755)
         for name in names:
             os.chmod(f"{folder}/{name}", 0o644)
-    for file in (ORIGIN, runs.MANIFEST, f"{runs.EXAMPLES}/letter.sig", runs.OVERCLAIMING, EXPIRED, BROKEN):
-        asked = ["rpki-client", "-n", "-d", cache, "-t", f"{runs.EXAMPLES}/anchor.tal", "-f", file]
+    for file in (ORIGIN, made.MANIFEST, f"{made.EXAMPLES}/letter.sig", made.OVERCLAIMING, EXPIRED, BROKEN):
+        asked = ["rpki-client", "-n", "-d", cache, "-t", f"{made.EXAMPLES}/anchor.tal", "-f", file]
         said = subprocess.run(asked, capture_output=True, check=False)
         theirs = b"Validation: OK" in said.stdout
         status, out, err = here.ran(check_words(file, at="now"))
@@ -1166,40 +1079,28 @@ def client(here, room):
                    (status == 0, b"", b""), (theirs, b"", b""))
 
 
-def main(asked):
-    if asked[:1] in (["-h"], ["--help"]):
-        print(__doc__, end="")
-        return 0
-    beside = asked[:1] == ["--client"]
-    given = [*asked[beside:], *(PROGRAM, OBJECTS)[len(asked[beside:]):]]
-    program, objects = (os.path.abspath(it) for it in given[:2])
-    for path in [program] if beside else [program, objects]:
-        if not os.path.isfile(path):
-            print(f"verify_runs: there is no program {path}: `rt run` in crates/{os.path.basename(path)}"
-                  " makes it", file=sys.stderr)
-            return 2
-    if beside and not shutil.which("rpki-client"):
-        print("verify_runs: there is no rpki-client", file=sys.stderr)
-        return 2
-    with tempfile.TemporaryDirectory(prefix="verify-runs-") as room:
-        here = Verify(program, objects, room)
-        if beside:
+def main(words):
+    reader = running.reader()
+    reader.add_argument("--client", action="store_true")
+    given = reader.parse_args(words)
+    if given.client and not shutil.which("rpki-client"):
+        stop("there is no rpki-client")
+    with tempfile.TemporaryDirectory(prefix="verify-") as room:
+        here = Verify(running.programs(given), room)
+        if given.client:
             client(here, room)
-        else:
-            preload = runs.compiled(room)
-            if not preload:
-                print("no refused allocations: no C compiler makes tools/refuse_growth.c")
-            for part in (answers, held_by, lists, attestations, each_settings, each_attestations, each_shown, each_json,
-                         standard_input, payloads, several_locators, exceptions, moments, helps, no_text,
-                         file_names, pages, special, each_when_done, streams):
-                part(here)
-            signatures(here, room)
-            memory(here, preload)
-            hostile(here)
+            return here.end()
+        preload = running.compiled(TOP / "tools/programs/refuse_growth.c", room)
+        if not preload:
+            print("no refused allocations: there is no C compiler")
+        for part in (answers, held_by, lists, attestations, each_settings, each_attestations, each_shown, each_json,
+                     standard_input,
+                     payloads, several_locators, exceptions, moments, helps, no_text, file_names, special,
+                     each_when_done, streams):
+            part(here)
+        pages.judge(here, here.programs)
+        signatures(here, room)
+        memory(here, preload)
+        hostile(here)
     print(f"{here.texts} texts of JSON were read")
-    print(f"{here.count - here.wrong} passed, {here.wrong} failed")
-    return 1 if here.wrong else 0
-
-
-if __name__ == "__main__":
-    sys.exit(main(sys.argv[1:]))
+    return here.end()

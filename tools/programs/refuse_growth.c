@@ -2,16 +2,14 @@
  * Refuses one allocation of a program, so that a test shows what the program
  * answers where memory runs out. Loaded before the C library (glibc):
  *
- *     cc -O2 -shared -fPIC -o refuse_growth.so tools/refuse_growth.c
+ *     cc -O2 -shared -fPIC -o refuse_growth.so tools/programs/refuse_growth.c
  *     FAIL_COUNT=1 LD_PRELOAD=./refuse_growth.so PROGRAM ..
  *     FAIL_AT=3    LD_PRELOAD=./refuse_growth.so PROGRAM ..
- *     FAIL_FROM=3  LD_PRELOAD=./refuse_growth.so PROGRAM ..
  *
  * The calls of malloc, calloc and realloc are counted together, from 1.
- * FAIL_AT=N: the N-th of them answers NULL, and no other. FAIL_FROM=N: the
- * N-th and each later one.
+ * FAIL_AT=N: the N-th of them answers NULL, and no other.
  * FAIL_COUNT=1: at the end a line "growths N" goes to standard error.
- * tools/growth and tools/runs compile and use this file.
+ * tools/program compiles and uses this file.
  */
 #include <stddef.h>
 #include <stdio.h>
@@ -25,20 +23,15 @@ extern void *__libc_realloc(void *block, size_t size);
 
 static long made;         /* how many calls there were */
 static long refused = -1; /* the call to refuse; -1: the words were not read yet */
-static int to_the_end;    /* whether each later call is refused too */
 
 /* Counts a call, and tells whether it is to be refused. */
 static int is_refused(void)
 {
-    long call;
-
     if (refused < 0) {
-        const char *at = getenv("FAIL_AT"), *from = getenv("FAIL_FROM");
-        to_the_end = from != NULL;
-        refused = from ? atol(from) : at ? atol(at) : 0;
+        const char *at = getenv("FAIL_AT");
+        refused = at ? atol(at) : 0;
     }
-    call = __atomic_add_fetch(&made, 1, __ATOMIC_SEQ_CST);
-    return call == refused || (to_the_end && call > refused);
+    return __atomic_add_fetch(&made, 1, __ATOMIC_SEQ_CST) == refused;
 }
 
 void *malloc(size_t size)

@@ -1,7 +1,6 @@
-#!/usr/bin/env python3
 """Shows that what goes over a content can't outlive it: such code does not compile.
 
-    tools/outlives
+    tools/test outlives
 
 Makes a crate in a temporary folder, beside copies of the crates that it stands on, with two
 functions for each iterator over the contents of rpki_files and rpki_routes: one that keeps its
@@ -9,17 +8,16 @@ content until the iterator's last call, and one that drops it before. `rt try --
 which proves nothing. The first ones have to build by themselves; of the others the compiler has to
 refuse each, where the content is dropped, since it is borrowed.
 
-Prints a line for each; the status is 0 where all were so, 1 where one was not, and 2 where the
-crate can't be built.
+Prints a line for each.
 """
-import os
+import pathlib
 import re
-import shutil
 import subprocess
-import sys
 import tempfile
 
-ROOT = os.path.dirname(os.path.dirname(os.path.realpath(__file__)))
+import crates
+from commands import stop
+
 CRATE = "outlives"
 USES = ["rpki_files", "rpki_routes", "rpki_basics"]
 HEAD = """\
@@ -34,9 +32,9 @@ use std::alloc::Global;
 # The iterator, its content, what is handed in besides, what is called, and what must live.
 ITERATORS = [
     ("FileListIter", "ManifestContent", "", "content.iter()", "content"),
-    ("ManifestUriIter", "ManifestContent", ", alloc: Global, base: Rsync", "content.iter_uris(alloc, &base)", "content"),
-    ("ManifestUriIter", "ManifestContent", ", alloc: Global, base: Rsync",
-     "content.iter_uris(alloc, &base)", "base"),
+    ("ManifestUriIter", "ManifestContent", ", alloc: Global, base: Rsync", "content.iter_uris(alloc, &base)",
+     "content"),
+    ("ManifestUriIter", "ManifestContent", ", alloc: Global, base: Rsync", "content.iter_uris(alloc, &base)", "base"),
     ("CheckListIter", "ResourceSignedChecklist", "", "content.iter()", "content"),
     ("ProviderAsIter", "AsProviderAttestation", "", "content.provider_as_set().iter()", "content"),
     ("RoaIpAddressIter", "RouteOriginAttestation", "", "content.v4_addrs().iter()", "content"),
@@ -51,11 +49,6 @@ fn it_builds(rt: HostRuntime) {
 """
 
 
-def stop(why):
-    print(f"outlives: {why}", file=sys.stderr)
-    sys.exit(2)
-
-
 def function(place, lives):
     """The function of an iterator: it counts one item, and what must live is dropped after that or before."""
     _, content, given, call, owner = ITERATORS[place]
@@ -64,43 +57,24 @@ def function(place, lives):
             f"    let mut items = {call};\n{walk + drop if lives else drop + walk}    found\n}}\n\n")
 
 
-def below(names):
-    """The crates of the repository that these stand on, themselves too, each with its line of crates.txt."""
-    with open(f"{ROOT}/crates.txt", encoding="utf-8") as it:
-        lines = {line.split(":")[0].strip(): line for line in it if line.split("#")[0].strip()}
-    found, left = {}, list(names)
-    while left:
-        name = left.pop()
-        if name in lines and name not in found:
-            found[name] = lines[name]
-            left += lines[name].split("#")[0].partition(":")[2].split()
-    return found
-
-
 def made(room):
     """Makes the crate's folder, beside those that it stands on."""
-    shutil.copyfile(f"{ROOT}/HANDLES", f"{room}/HANDLES")
-    crates = below(USES)
-    with open(f"{room}/crates.txt", "w", encoding="utf-8") as it:
-        it.writelines([*crates.values(), f"{CRATE}: {' '.join(USES)}\n"])
-    for name in crates:
-        for part in ("src", "specs", "proofs"):
-            if os.path.isdir(f"{ROOT}/crates/{name}/{part}"):
-                shutil.copytree(f"{ROOT}/crates/{name}/{part}", f"{room}/crates/{name}/{part}")
-    os.makedirs(f"{room}/crates/{CRATE}/src")
-    return f"{room}/crates/{CRATE}"
+    uses = crates.uses() | {CRATE: USES}
+    crates.copy(crates.below(CRATE, uses), uses, room, made=CRATE)
+    folder = pathlib.Path(room, "crates", CRATE)
+    (folder / "src").mkdir(parents=True)
+    return folder
 
 
 def built(folder, code):
     """Builds the crate with this code, and returns whether it was built and what was said."""
-    with open(f"{folder}/src/lib.rt", "w", encoding="utf-8") as it:
-        it.write(HEAD + code + TEST)
+    (folder / "src/lib.rt").write_text(HEAD + code + TEST)
     ran = subprocess.run(["rt", "try", "--test"], cwd=folder, stdin=subprocess.DEVNULL, stdout=subprocess.PIPE,
                          stderr=subprocess.STDOUT, errors="replace")
     return ran.returncode == 0, ran.stdout
 
 
-def main():
+def main(_):
     with tempfile.TemporaryDirectory(prefix="outlives-") as room:
         folder = made(room)
         lives = "".join(function(place, True) for place in range(len(ITERATORS)))
@@ -125,9 +99,3 @@ def main():
             print(said[-4000:])
     return 1 if wrong else 0
 
-
-if __name__ == "__main__":
-    if len(sys.argv) > 1:
-        print(__doc__)
-        sys.exit(2)
-    sys.exit(main())

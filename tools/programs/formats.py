@@ -1,6 +1,6 @@
-"""What `rpki_verify payloads` prints in each format: for tools/payloads_trees and tools/verify_runs.
+"""What `rpki_verify payloads` prints in each format: for trees.py and verify.py.
 
-`found` has pairs of the name of a locator and the payloads below it, as tools/payload_trees.py has
+`found` has pairs of the name of a locator and the payloads below it, as tree_rows.py has
 them: each payload is one row, whatever locators it is below. `refused` has by name what is refused
 there: a URI, the cause, and the manifest of the CA.
 """
@@ -79,7 +79,8 @@ def ranged(prefix, length, most):
 
 def as_lines(found, *_):
     rows = [f"origin AS{number} {ranged(*block)}\n" for _, number, *block, _ in origins(found)]
-    rows += [f"aspa AS{customer} {' '.join(f'AS{it}' for it in several)}\n" for _, customer, several, _ in customers(found)]
+    rows += [f"aspa AS{customer} {' '.join(f'AS{it}' for it in several)}\n"
+             for _, customer, several, _ in customers(found)]
     return "".join(rows)
 
 
@@ -113,7 +114,8 @@ def document(**members):
 def metadata(found, refused, moment):
     counts = [{"name": name, "origins": len(origins([(name, it)])), "providers": len(providers([(name, it)])),
                "refused": len(refusals(refused, name))} for name, it in found]
-    return {"buildtime": shown(moment), "generated": seconds_of(moment), "generatedTime": shown(moment), "locators": counts}
+    return {"buildtime": shown(moment), "generated": seconds_of(moment), "generatedTime": shown(moment),
+            "locators": counts}
 
 
 def roas(found, number_of):
@@ -122,10 +124,13 @@ def roas(found, number_of):
 
 
 def as_json(found, refused, moment=MOMENT):
-    aspas = [{"customer": f"AS{customer}", "expires": seconds_of(until), "providers": [f"AS{it}" for it in several], "ta": name}
+    aspas = [{"customer": f"AS{customer}", "expires": seconds_of(until), "providers": [f"AS{it}" for it in several],
+              "ta": name}
              for name, customer, several, until in customers(found)]
-    said = [{"ca": under, "reason": cause, "ta": name, "uri": uri} for name, _ in found for uri, cause, under in refusals(refused, name)]
-    return document(aspas=aspas, metadata=metadata(found, refused, moment), refused=said, roas=roas(found, "AS{}".format))
+    said = [{"ca": under, "reason": cause, "ta": name, "uri": uri}
+            for name, _ in found for uri, cause, under in refusals(refused, name)]
+    return document(aspas=aspas, metadata=metadata(found, refused, moment), refused=said,
+                    roas=roas(found, "AS{}".format))
 
 
 def as_client(found, refused, moment=MOMENT):
@@ -136,9 +141,10 @@ def as_client(found, refused, moment=MOMENT):
 
 def as_bird(found, *_):
     def table(number, is_in):
-        routes = (f"\troute {prefix} max {most} as {asn};\n" for _, asn, prefix, _, most, _ in origins(found) if is_in(prefix))
-        return (f"roa{number} table ROAS{number};\n\nprotocol static origins{number} {{\n\troa{number} {{ table ROAS{number}; }};\n"
-                + "".join(routes) + "}\n")
+        routes = (f"\troute {prefix} max {most} as {asn};\n"
+                  for _, asn, prefix, _, most, _ in origins(found) if is_in(prefix))
+        return (f"roa{number} table ROAS{number};\n\nprotocol static origins{number} {{\n"
+                f"\troa{number} {{ table ROAS{number}; }};\n" + "".join(routes) + "}\n")
     return table(4, lambda it: ":" not in it) + "\n" + table(6, lambda it: ":" in it)
 
 

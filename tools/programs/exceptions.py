@@ -1,4 +1,4 @@
-"""Local exceptions (RFC 8416) over origins and providers: for tools/verify_runs.
+"""Local exceptions (RFC 8416) over origins and providers: for verify.py and readers.py.
 
 `after` is an implementation of its own: what is left of origins `(AS, prefix, maximum length)` and of
 providers `(customer, provider)`, and what is added. REFUSED has texts that are refused whole, each
@@ -85,6 +85,7 @@ APART = [(made(filters=[{"prefix": "192.0.2.0/25"}]), made(filters=[{"prefix": "
          (made(filters=[{"asn": 64496}]), made(filters=[{"asn": 64496}])),
          (made(filters=[{"prefix": "::/0"}]), made(assertions=[{"asn": 1, "prefix": "192.0.2.0/24"}]))]
 OVERLAPPING = [(made(filters=[{"prefix": "192.0.2.0/24"}]), made(assertions=[{"asn": 1, "prefix": "192.0.2.128/25"}])),
-               (made(assertions=[{"asn": 1, "prefix": "192.0.2.0/24"}]), made(assertions=[{"asn": 2, "prefix": "0.0.0.0/0"}])),
+               (made(assertions=[{"asn": 1, "prefix": "192.0.2.0/24"}]),
+                made(assertions=[{"asn": 2, "prefix": "0.0.0.0/0"}])),
                (made(2, aspa_filters=[{"customerAsn": 64496}]),
                 made(2, aspa_assertions=[{"customerAsn": 64496, "providerAsns": [64497]}]))]

@@ -4,10 +4,10 @@
  * as if none were. So a test is run once, and what comes before an allocation
  * is not run again for it. Loaded before the C library (glibc, Linux, x86-64):
  *
- *     cc -O2 -shared -fPIC -o each_growth.so tools/each_growth.c
+ *     cc -O2 -shared -fPIC -o each_growth.so tools/testing/each_growth.c
  *     EACH_TO=FILE LD_PRELOAD=./each_growth.so PROGRAM TEST
  *
- * PROGRAM is what `rt try --fail-alloc` builds, in which tools/growth has put a
+ * PROGRAM is what `rt try --fail-alloc` builds, in which `tools/test growth` has put a
  * trap in the place of each comparison of an allocation's number with the one
  * to refuse: the number is in %rax then, and the jump that follows skips the
  * refusal unless the flag of equality is set.
@@ -16,7 +16,6 @@
  * waitpid tells it, and LENGTH octets that it said on standard error. One that
  * takes more than a minute of the processor, or ten minutes, is ended by SIGXCPU
  * or SIGALRM.
- * EACH_FROM=1: each later allocation is refused too.
  * EACH_AT_ONCE=N: so many processes run beside the program (1 unless given).
  */
 #define _GNU_SOURCE
@@ -47,7 +46,6 @@ static int count;          /* how many processes are running */
 static int at_once = 1;    /* how many may be */
 static int to = -1;        /* the file that gets what became of them */
 static int is_one_of_them; /* whether this is such a process */
-static int to_the_end;     /* whether each later allocation is refused too */
 
 static void stop(const char *why)
 {
@@ -102,7 +100,7 @@ static int is_refused(long at)
     struct process made = {0, 0, at};
 
     if (is_one_of_them)
-        return to_the_end;
+        return 0;
     while (count >= at_once)
         collect();
     made.said = memfd_create("said", MFD_CLOEXEC);
@@ -141,7 +139,6 @@ __attribute__((constructor)) static void begin(void)
     to = open(file, O_WRONLY | O_CREAT | O_TRUNC | O_CLOEXEC, 0600);
     if (to < 0)
         stop(file);
-    to_the_end = getenv("EACH_FROM") != NULL;
     at_once = most ? atoi(most) : 1;
     if (at_once < 1 || at_once > MOST_AT_ONCE)
         at_once = 1;

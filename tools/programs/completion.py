@@ -1,21 +1,17 @@
-#!/usr/bin/env python3
-"""Holds the completion for bash, and the manual page of rpki_verify, to its table of options.
+"""Holds the completion for bash, and the manual page of rpki_verify, to the table of options of the program.
 
-    tools/completion [PROGRAM]          compares docs/rpki_verify.1 with what the program says:
-                                        SYNOPSIS, and the words of OPTIONS; and tries
-                                        share/completion.bash in a bash of its own: types words,
-                                        asks for all completions of the last one, and compares the
-                                        words that the command then has
-    tools/completion --write [PROGRAM]  writes that SYNOPSIS
-    tools/completion --check            without a program: that the calls of rpki_objects in the
-                                        completion are those of SYNOPSIS in docs/rpki_objects.1
+    tools/program completion [--unproved | --in FOLDER]    compares docs/rpki_verify.1 with what the program
+                                     says: SYNOPSIS, and the words of OPTIONS; and tries share/completion.bash
+                                     in a bash of its own: types words, asks for all completions of the last
+                                     one, and compares the words that the command then has
+    tools/program completion --write ..    writes that SYNOPSIS
+    tools/program completion --check       without a program: that the calls of rpki_objects in the
+                                     completion are those of SYNOPSIS in docs/rpki_objects.1
 
-PROGRAM is crates/rpki_verify/out/rpki_verify unless it is given. Its table is what `--options`
-prints, from which it makes its usage texts too; the completion asks it for the table. tools/pages
-runs `--check`, tools/page_runs the first.
+The table is what `rpki_verify --options` prints, from which it makes its usage texts too; the completion
+asks it for the table. tools/pages runs `--check`, `tools/program pages` the first.
 
-Prints what is wrong, or how much was compared; the status is 1 where something is wrong, and 2
-where there is no program.
+Prints what is wrong, or how much was compared.
 """
 import os
 import pathlib
@@ -24,20 +20,21 @@ import re
 import select
 import shlex
 import subprocess
-import sys
 import tempfile
 import textwrap
 import time
 
-TOP = pathlib.Path(__file__).resolve().parent.parent
+from commands import stop
+from programs import running
+from unproved import ROOM, TOP
+
 COMPLETION = TOP / "share" / "completion.bash"
-PROGRAM = TOP / "crates" / "rpki_verify" / "out" / "rpki_verify"
 MANUAL = TOP / "docs" / "rpki_verify.1"
 SECONDS = 20
 # What lies in the folder where words are typed.
 FILES = "anchor.tal", "below/second.cer", "copy/file", "object.roa", "rta-file", "two words.roa"
-# What is typed, and the words that the command has then; * is M-*, which types all completions of
-# the last word. A moment of the clock stands as MOMENT.
+# What is typed, and the words that the command has then; * is M-*, which types all completions of the last word. A
+# moment of the clock stands as MOMENT.
 ROWS = """
 rpki_verify *                             | --help --version check explain files payloads rta show verdicts
 rpki_verify p*                            | payloads
@@ -108,28 +105,26 @@ rpki_objects rta f 2 an tal=a ca=b:below/* | rta f 2 an tal=a ca=b:below/second.
 
 def said(*words):
     """What a program prints."""
-    return subprocess.run(words, capture_output=True, text=True, check=True).stdout
+    return subprocess.run(words, capture_output=True, env=os.environ | ROOM, text=True, check=True).stdout
 
 
 # ---- in a bash
 
 class Shell:
-    """An interactive bash in a folder, where each program is a function that prints its words, and
-    rpki_verify its table too."""
+    """An interactive bash in a folder, where each program is a function that prints its words, and rpki_verify its
+    table too."""
 
     def __init__(self, folder, table):
-        pid, self.terminal = pty.fork()
-        if pid == 0:
+        self.pid, self.terminal = pty.fork()
+        if self.pid == 0:
             os.chdir(folder)
-            room = {"PATH": os.environ["PATH"], "TERM": "dumb", "PS1": "", "LC_ALL": "C",
-                    "INPUTRC": "/dev/null"}
+            room = {"PATH": os.environ["PATH"], "TERM": "dumb", "PS1": "", "LC_ALL": "C", "INPUTRC": "/dev/null"}
             os.execvpe("bash", ["bash", "--norc", "--noprofile", "-i"], room)
-        self.pid = pid
+        shows = "{ printf '<''<'; printf '%s\\t' \"$@\"; printf '>''>'; }"
+        tells = f"[[ $1 == --options ]] && cat {shlex.quote(table)}"
         self.type("stty -echo; bind 'set bell-style none'\n")
         self.type("bind 'set completion-query-items 0'\n")
-        shows = "{ printf '<''<'; printf '%s\\t' \"$@\"; printf '>''>'; }"
         self.type(f"rpki_objects() {shows}\n")
-        tells = f"[[ $1 == --options ]] && cat {shlex.quote(table)}"
         self.type(f"rpki_verify() {{ {tells} || {shows}; }}\n")
         self.type(f"source {shlex.quote(str(COMPLETION))} && rpki_objects ready\n")
         self.told()
@@ -146,7 +141,7 @@ class Shell:
             found = re.search(rb"<<(.*?)\t>>", said, re.S)
             if found:
                 return found[1].decode().split("\t")
-        sys.exit(f"completion: bash says nothing but {said!r}")
+        stop(f"bash says nothing but {said!r}")
 
     def end(self):
         self.type("exit\n")
@@ -155,7 +150,6 @@ class Shell:
 
 def wrong_in_bash(program):
     """What is wrong in a bash."""
-    rows = [line.split("|") for line in ROWS.strip().split("\n")]
     with tempfile.TemporaryDirectory(prefix="completion-") as room:
         folder, table = pathlib.Path(room, "folder"), pathlib.Path(room, "table")
         table.write_text(said(program, "--options"))
@@ -163,35 +157,27 @@ def wrong_in_bash(program):
             (folder / name).parent.mkdir(parents=True, exist_ok=True)
             (folder / name).touch()
         shell = Shell(folder, str(table))
-        for typed, wanted in rows:
-            typed = typed.rstrip()
+        for typed, wanted in (map(str.strip, line.split("|")) for line in ROWS.strip().split("\n")):
             shell.type(typed.replace("*", "\x1b*") + "\n")
             got = re.sub(r"\b\d{14}Z", "MOMENT", " ".join(shell.told()))
-            if got != wanted.strip():
-                yield f"{typed!r} is completed to {got!r}, and not to {wanted.strip()!r}"
+            if got != wanted:
+                yield f"{typed!r} is completed to {got!r}, and not to {wanted!r}"
         shell.end()
 
 
-# ---- the manual page of rpki_verify
+# ---- the manual pages
 
 def calls_in(text):
     """The calls in front of a usage text, each in one line."""
     lines = re.match(r"usage: (?:rpki_verify.*\n(?: {8,}\S.*\n)*(?: {7}\b)?)+", text)[0]
-    calls = re.split(r"^(?:usage:| {7}\b)", lines, flags=re.M)[1:]
-    return [" ".join(call.split()) for call in calls]
+    return [" ".join(call.split()) for call in re.split(r"^(?:usage:| {7}\b)", lines, flags=re.M)[1:]]
 
 
-def calls_of(program):
-    """The calls of each command, and those without one."""
-    calls = []
-    for row in said(program, "--options").splitlines():
-        if len(row.split("\t")) == 4:
-            calls += calls_in(said(program, row.split("\t")[0], "--help"))
-    return calls + calls_in(said(program, "--help"))[1:]
-
-
-def synopsis_of(calls):
-    """Calls as SYNOPSIS of a manual page: what is typed in bold, the rest in italics."""
+def synopsis_of(program):
+    """The calls of each command, and those without one, as SYNOPSIS: what is typed in bold, the rest in italics."""
+    named = [it.split("\t")[0] for it in said(program, "--options").splitlines() if it.count("\t") == 3]
+    calls = [call for it in named for call in calls_in(said(program, it, "--help"))]
+    calls += calls_in(said(program, "--help"))[1:]
     made = []
     for call in calls:
         text = call.partition(" ")[2]
@@ -205,33 +191,27 @@ def synopsis_of(calls):
 
 def cut(page):
     """A manual page: what stands before the lines of SYNOPSIS, these lines, and the rest."""
-    parted = re.compile(r"(?<=^\.SH SYNOPSIS\n)(.*?)(?=^\.SH )", re.M | re.S)
-    before, lines, after = parted.split(page, maxsplit=1)
-    return before, lines, after
+    return re.split(r"(?<=^\.SH SYNOPSIS\n)(.*?)(?=^\.SH )", page, maxsplit=1, flags=re.M | re.S)
 
 
 def wrong_in_manual(program):
-    """What is wrong in the manual page."""
-    before, lines, after = cut(MANUAL.read_text())
-    if lines != synopsis_of(calls_of(program)):
-        yield f"{MANUAL.relative_to(TOP)}: SYNOPSIS is stale: run tools/completion --write"
+    """What is wrong in the manual page of rpki_verify."""
+    _, lines, after = cut(MANUAL.read_text())
+    if lines != synopsis_of(program):
+        yield f"{MANUAL.relative_to(TOP)}: SYNOPSIS is stale: run tools/program completion --write"
     rows = [row.split("\t") for row in said(program, "--options").splitlines()]
     table = {" ".join(row[1:3]).strip() for row in rows if len(row) > 4}
     section = re.search(r"^\.SH OPTIONS\n(.*?)^\.SH ", after, re.M | re.S)[1]
     heads = [it.replace("\\-", "-").partition(" ")[2] for it in re.findall(r"^\.TP\n(.*)", section, re.M)]
-    told = {"".join(shlex.split(head)).partition(",")[0] for head in heads}
-    for word in sorted(table ^ told):
+    for word in sorted(table ^ {"".join(shlex.split(head)).partition(",")[0] for head in heads}):
         yield f"{MANUAL.relative_to(TOP)}: OPTIONS and the table differ: {word}"
 
-
-# ---- the calls of rpki_objects
 
 def wrong_calls():
     """Where the completion and the manual page of rpki_objects differ."""
     mine = re.search(r"^_rpki_objects_calls='([^']*)'$", COMPLETION.read_text(), re.M)[1].split("\n")
     _, part, _ = cut((TOP / "docs" / "rpki_objects.1").read_text())
-    part = re.sub(r"\\f.|\\&", "", part).replace("\\-", "-")
-    theirs = []
+    part, theirs = re.sub(r"\\f.|\\&", "", part).replace("\\-", "-"), []
     for call in part.split("\n.br\n"):
         words = []
         for line in call.strip().split("\n"):
@@ -239,39 +219,29 @@ def wrong_calls():
             between = "" if re.fullmatch(r"\.[BIR]{2} ", request or "") else " "
             words.append(between.join(shlex.split(rest)))
         theirs.append(" ".join(words).removeprefix("rpki_objects "))
-    for call in sorted(set(mine) ^ set(theirs)):
+    for call in sorted({*mine} ^ {*theirs}):
         yield f"share/completion.bash and docs/rpki_objects.1 differ: rpki_objects {call}"
 
 
-def write(program):
-    """Writes SYNOPSIS."""
-    before, _, after = cut(MANUAL.read_text())
-    MANUAL.write_text(before + synopsis_of(calls_of(program)) + after)
+def faults(program=None):
+    """What is wrong, beside this program or without one."""
+    if subprocess.run(["bash", "-n", COMPLETION]).returncode:
+        return ["share/completion.bash is none"]
+    return [*wrong_in_manual(program), *wrong_in_bash(program)] if program else [*wrong_calls()]
 
 
 def main(words):
-    flag = words.pop(0) if words and words[0] in ("--check", "--write") else ""
-    if len(words) > 1 or words and (words[0].startswith("-") or flag == "--check"):
-        print(__doc__, end="")
-        return 0 if words[0] in ("-h", "--help") else 2
-    program = os.path.abspath(words[0] if words else PROGRAM)
-    if flag != "--check" and not os.path.isfile(program):
-        print(f"completion: there is no program {program}", file=sys.stderr)
-        return 2
-    if flag == "--write":
-        write(program)
+    reader = running.reader()
+    reader.add_argument("--check", action="store_true")
+    reader.add_argument("--write", action="store_true")
+    given = reader.parse_args(words)
+    program = None if given.check else running.programs(given, "rpki_verify")["rpki_verify"]
+    if given.write:
+        before, _, after = cut(MANUAL.read_text())
+        MANUAL.write_text(before + synopsis_of(program) + after)
         return 0
-    if subprocess.run(["bash", "-n", COMPLETION], check=False).returncode:
-        return 1
-    faults = [*wrong_calls()] if flag else [*wrong_in_manual(program), *wrong_in_bash(program)]
-    for fault in faults:
-        print(fault)
-    if not faults:
-        count = len(ROWS.strip().split("\n"))
-        print("The completion has the calls of rpki_objects." if flag
-              else f"The manual page has the words of the table; {count} lines are completed rightly.")
-    return 1 if faults else 0
-
-
-if __name__ == "__main__":
-    sys.exit(main(sys.argv[1:]))
+    found, count = faults(program), len(ROWS.strip().split("\n"))
+    right = (f"The manual page has the words of the table; {count} lines are completed rightly." if program
+             else "The completion has the calls of rpki_objects.")
+    print("\n".join(found or [right]))
+    return 1 if found else 0
