@@ -2,8 +2,8 @@
 //! runs, which `rows` walks.
 //!
 //! The expected values follow from the profile by hand, or are those of other programs. A test
-//! hands on that memory ran out and asserts everything else, so `tools/growth` can refuse each of
-//! its allocations in turn. Other contents, objects and words are cases of `rows/`; streams that
+//! hands on that memory ran out and asserts everything else, so `tools/test growth` can refuse each
+//! of its allocations in turn. Other contents, objects and words are cases of `rows/`; streams that
 //! fail at each of their calls are in the sweeps.
 
 mod asked;

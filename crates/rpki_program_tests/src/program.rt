@@ -2,7 +2,7 @@
 //! Words that ask for nothing are cases of `rows/verify_usage.jsonl`.
 //!
 //! The expected values follow from the definitions by hand. A test hands on that memory ran out and
-//! asserts everything else, so `tools/growth` can refuse each of its allocations in turn.
+//! asserts everything else, so `tools/test growth` can refuse each of its allocations in turn.
 
 mod file_kinds;
 mod moments;

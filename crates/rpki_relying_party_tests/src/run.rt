@@ -1,5 +1,5 @@
-//! Tests of a run under a locator. Each hands on that memory ran out, so `tools/growth` can refuse
-//! each of its allocations in turn.
+//! Tests of a run under a locator. Each hands on that memory ran out, so `tools/test growth` can
+//! refuse each of its allocations in turn.
 
 mod joined;
 pub mod octets;

@@ -1,7 +1,7 @@
 //! Tests of `rpki_basics`, each a table of rows that one small function walks.
 //!
 //! The expected values stand in the standards, follow from them by hand, or are those of Python's
-//! datetime. A test hands want of memory on and asserts everything else, so `tools/growth` can
+//! datetime. A test hands want of memory on and asserts everything else, so `tools/test growth` can
 //! refuse each of its allocations in turn. Texts of errors are in the sweeps.
 
 mod dates;
